@@ -208,9 +208,7 @@ module _ (site : Site) {unsorted : List Transition} {queue : List QueuedState}
   }
     where
       as-many : length transitions ≡ length unsorted
-      as-many =
-          let moved = length_permutation h.added s.sorted sorted-from in
-          omega (arith, ap length split, ap length h.split, moved, length-append {A = Transition})
+      as-many = grind (arith, common_steps, length_permutation h.added s.sorted sorted-from)
 
       outer : length site.states < FIRST_INNER
           → IsNext site.kind site.patterns site.sorted site.queue (length site.states) site.queued

@@ -49,38 +49,9 @@ module _ (site : Site) {place end b : ℕ} {transitions : List Transition} {queu
     where
       same-parent : (j : ℕ) → j < length site.states
           → slice_get (nodes_of site.sorted site.queue) j ≡ Some (Some (string site)) → ⊥
-      same-parent j l node = elim (nodes-cases site.sorted site.queue j (Some (string site)) node) [
-        | inl dead ↦ absurd (let e = dead.node in cc)
-        | inr (inl start) ↦
-            at-start j l start.from
-            (let e : Some (string site) ≡ Some [] = start.node in let f : string site ≡ [] = cc in f)
-            site.ready.next
-        | inr (inr inner) ↦ at-inner j l inner site.ready.next
-      ]
-        where
-          at-start : (j : ℕ) → j < length site.states → START ≤ j → string site ≡ []
-              → IsNext site.kind site.patterns site.sorted site.queue (length site.states) site.queued → ⊥
-          at-start j l low none (inl start) = absurd (omega (arith, start.number))
-          at-start j l low none (inr later) =
-              let s = later.number in
-              let d = site.ready.waits.inner (omega arith) in
-              let e = ap length none in
-              let m = long site h run in
-              absurd (omega arith)
-
-          at-inner : (j : ℕ) → j < length site.states → IsInner site.sorted site.queue j (Some (string site))
-              → IsNext site.kind site.patterns site.sorted site.queue (length site.states) site.queued → ⊥
-          at-inner j l inner (inl start) = absurd (omega (arith, start.number, inner.number))
-          at-inner j l inner (inr later) =
-              let e : word site.sorted inner.queued ≡ string site =
-              (let w : Some (string site) ≡ Some (word site.sorted inner.queued) = inner.node in
-              let v : string site ≡ word site.sorted inner.queued = cc in sym v) in
-              let at =
-              site.ready.grown.apart inner.place later.place inner.queued site.queued inner.waits
-              later.waits e in
-              let m = inner.number in
-              let n = later.number in
-              absurd (omega arith)
+      same-parent j l node =
+          search (rules, long, nodes-cases, string, nodes-cases site.sorted site.queue j (Some (string site)) node,
+            string site, long site h run)
 
   -- nor does a child that came before have this string
   pub fresh : (k : ℕ) (q : QueuedState) → slice_get queue k ≡ Some q

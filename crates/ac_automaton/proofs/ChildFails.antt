@@ -1,4 +1,5 @@
 -- The failure target of a child.
+use Rattle.std.proofs.lemmas.Grind.{common_steps}
 use Rattle.std.proofs.Common.{◌≡◌, ◌≢◌, ℕ, ◌+◌, Bool, true, List, [], ◌∷◌, ◌++◌, length, ap, sym, subst, arith, Some, None, slice_get, rules}
 use Rattle.std.proofs.lemmas.List.{length_push}
 use Rattle.ac_automaton.specs.Util.{equal_to, is_leftmost, MatchKind, No, Node, step}
@@ -22,10 +23,7 @@ module _ {kind : MatchKind} {ignores_case : Bool} {patterns : List (List ℕ)} {
   -- under a leftmost kind a child that is a pattern fails to the dead state
   pub fail-pattern : is_leftmost kind ≡ true → byte_at sorted (p.depth + 1) place ≡ None
       → slice_get (nodes_of sorted queue) 0 ≡ Some (fallback kind patterns (Some (word sorted p ++ b ∷ [])))
-  fail-pattern leftmost ends =
-      ap (λ (v : Node). Some v) (sym (fallback-pattern kind patterns (word sorted p) b leftmost
-      (equal_to-some kind patterns sorted h.order (word sorted p ++ b ∷ []) place h.to h.range h.some
-      (subst (λ (n : ℕ). byte_at sorted n place ≡ None) (sym longer) ends))))
+  fail-pattern leftmost ends = search (rules, equal_to-some, fallback-pattern, longer)
 
   -- where the first pattern goes on, none is the string of the child
   no-pattern : (is_leftmost kind ≡ true → byte_at sorted (p.depth + 1) place ≢ None) → is_leftmost kind ≡ true

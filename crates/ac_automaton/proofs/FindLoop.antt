@@ -109,9 +109,7 @@ module _ (s : Scan) (stops : Bool) (bytes : List ℕ) (span : Span) where
         by : (ns : List ℕ) → matches_of s.built s.anchored (node_at (at + 1)) ≡ ns
             → r ≡ pick order (up_to (at + 1))
         by [] e = picked ∙ sym (pick-goes_on s.built.kind order (up_to at) ordered room goes_on e)
-        by (i ∷ rest) e =
-            let is : Some (place_of s.built (at + 1) i) ≡ None = sym (found-by (at + 1) (i ∷ rest) e) ∙ nothing in
-            absurd (cc)
+        by (i ∷ rest) e = search (rules, found-by)
 
     -- or a match, which is picked
     pub picked-newly : (m : Occurrence) → here ≡ Some m → Some m ≡ pick order (up_to (at + 1))
@@ -129,9 +127,5 @@ module _ (s : Scan) (stops : Bool) (bytes : List ℕ) (span : Span) where
       → SearchGoesOn s.built.kind order r → at ≤ span.end → span.end ≤ length bytes → node_at at ≡ None
       → r ≡ pick order q
   dead-stays at r ordered picked goes up inside dead =
-      grind (
-        arith,
-        common_steps,
-        pick-stays_dead s.built.kind order (up_to at) (span.end - at) (omega arith) (omega arith) dead (subst (SearchGoesOn s.built.kind order) picked
-            goes),
-      )
+      grind (arith, common_steps,
+        pick-stays_dead s.built.kind order (up_to at) (span.end - at) (omega arith) (omega arith) dead (subst (SearchGoesOn s.built.kind order) picked goes))

@@ -1,5 +1,6 @@
 -- A find on its way: where its scanner has come to, and what it picks so far.
-use Rattle.std.proofs.Common.{◌≡◌, ◌+◌, ◌-◌, ◌≤◌, ℕ, Bool, true, false, IsTrue, ◌↔◌, List, [], ◌++◌, length, ap, refl, subst, sym, ◌∙◌, arith, Option, IfSome}
+use Rattle.std.proofs.lemmas.Grind.{common_steps}
+use Rattle.std.proofs.Common.{◌≡◌, ◌+◌, ◌-◌, ◌≤◌, ℕ, Bool, true, false, IsTrue, ◌↔◌, List, [], ◌++◌, length, ap, refl, subst, sym, ◌∙◌, arith, Option, IfSome, rules}
 use Rattle.std.specs.Option.{option_or}
 use Rattle.ac_util.proofs.SearchLoop.{SearchGoesOn}
 use Rattle.ac_automaton.specs.Util.{Counts, is_leftmost, Node, Occurrence, order_of, Span, Standard, Taped, usize_max}
@@ -20,12 +21,7 @@ whole_span t = record { start = t.start; end = t.end }
 none-whole : (s : Scan) (t : ScanText) {from to : ℕ} → NoMatchBetween s t from to
     → NoMatchBetween s (in_memory (whole_bytes t) (whole_span t)) (past t.before from) (past t.before to)
 none-whole s t {from} {to} none k after before =
-    let low = past-is t.before from in
-    let high = past-is t.before to in
-    let here = past-is t.before (k - length t.before) in
-    let place : past t.before (k - length t.before) ≡ k = omega arith in
-    subst (λ (n : ℕ). matches_of s.built s.anchored (node s (in_memory (whole_bytes t) (whole_span t)) n) ≡ []) place
-    (none (k - length t.before) (omega arith) (omega arith))
+    search (rules, past-is, past-is t.before from, past-is t.before to, past-is t.before (k - length t.before))
 
 module _ (v : ScannerView) {tape : Taped} {t : ScanText} (leads : LeadsTo v tape t) (here : Cursor)
     (is_at : IsAt v.scan t here.state here.at) where
@@ -54,9 +50,7 @@ module _ (v : ScannerView) {tape : Taped} {t : ScanText} (leads : LeadsTo v tape
   -- so what is found there is what the node finds
   pub found-there : {found : Option Occurrence} → FindsAt v here found
       → found ≡ found_at v.scan.built v.scan.anchored (node v.scan t here.at) (past t.before here.at)
-  found-there finds =
-      finds (node v.scan t here.at) is_at.there fits-there
-      ∙ ap (λ (k : ℕ). found_at v.scan.built v.scan.anchored (node v.scan t here.at) k) (sym place-there)
+  found-there finds = search (rules, fits-there, place-there)
 
 -- a find that hasn't its answer reads on, and picks what is found where it has then come to, or else what it did
 module _ (v : ScannerView) {stops : Bool} {t : ScanText} {here : Cursor} {last : Option Occurrence}
@@ -129,14 +123,7 @@ module _ {v : ScannerView} {stops : Bool} {start : Cursor} {tape : Taped} {count
         (fails : test ≡ false) where
       -- without its answer it may read on
       pub may-read-on : MayAdvance v tape_here here
-      may-read-on =
-          let long = ap (length {A = ℕ}) on.bytes in
-          record {
-            alive = (t, may.led.1.same ∙ sym on.bytes, alive v picked says fails);
-            before_end = (unanswered v picked says fails).room;
-            inside = omega (arith, long, may.inside);
-            unread = (on.scans t may.led.1 may.led.2).unread;
-          }
+      may-read-on = search (rules, alive, picked, unanswered)
 
       module _ {then_cursor : Cursor} {new_tape : Taped} {new_counts : Counts}
           (advances : Advances v here tape_here counts_here then_cursor new_tape new_counts) where
@@ -177,14 +164,7 @@ module _ {v : ScannerView} {stops : Bool} {tape : Taped} {start : Cursor} (may :
     picked-first = record { is_at = may.ready.is_at; picks = is-found ∙ may.ready.picked }
 
     pub may-pick : MayPick v stops tape start found
-    may-pick = record {
-      leftmost = may.leftmost;
-      within = may.within;
-      inside = may.inside;
-      unread = may.unread;
-      small = omega (arith, may.memory, may.small);
-      led = (text-there, leads-there, picked-first);
-    }
+    may-pick = search (rules, leads-there, picked-first)
 
     -- what is picked where it has its answer is the answer
     pub finds-on : {counts new_counts : Counts} {there : Cursor} {new_tape : Taped} {last : Option Occurrence}

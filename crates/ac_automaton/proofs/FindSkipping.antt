@@ -50,11 +50,7 @@ module _ (s : Scan) (bytes : List ℕ) (span : Span) {needle : List ℕ} (by : S
 
   -- each pattern takes part, since there is one
   all : (n : ℕ) → n < length s.built.patterns → participates s.built.kind (plain_patterns searched) n ≡ true
-  all n within =
-      let serves = by.skips.serves in
-      subst (λ ps. participates s.built.kind ps n ≡ true) (sym (ap (map (plain s.built.ignores_case)) serves.1))
-      (one-takes_part s.built.kind (plain s.built.ignores_case needle) n
-      (subst (λ ps. n < length ps) serves.1 within))
+  all n within = search (rules, one-takes_part)
 
   -- what is picked in the rest of the span is picked
   picked-rest : {r : Option Occurrence}
@@ -93,35 +89,14 @@ module _ (s : Scan) (bytes : List ℕ) (span : Span) {needle : List ℕ} (by : S
     called same = omega (arith, same, calls, scans.grows.calls)
 
     has_read : HasRead (most_looks s.anchored s.most) (may_skip s.wants_prefilter searched) span.start span.end begun after
-    has_read =
-        let has = read-scanned s (in_memory bytes span) refl scans (omega (arith, before_end)) in
-        record {
-          onward = has.onward;
-          within = has.within;
-          grows = record {
-            reads = omega (arith, has.grows.reads, reads);
-            looks = omega (arith, has.grows.looks, reads, looks);
-            calls = omega (arith, has.grows.calls, calls);
-          };
-          told = λ further. (let told = has.told further in omega (arith, told, reads));
-          whole = λ same. absurd (called same);
-          reads = omega (arith, has.reads, reads);
-          looks = rw (looks, reads) has.looks;
-          calls = omega (arith, scans.calls, scans.onward, calls, before_end);
-          quiet = λ off. grind (arith, common_steps, by.skips.built_so, by.unanchored);
-        }
+    has_read = search (rules, called, calls, looks, read-scanned, reads)
 
     ends-there : (r : Option Occurrence) → pick picks (search_over s.built.ignores_case s.built.patterns bytes cursor.at span.end) ≡ r
         → IfSome r (ReadsTo span.start begun after)
     ends-there None answer = tt
     ends-there (Some m) answer =
-        let o = pick-Occurs picks (search_over s.built.ignores_case s.built.patterns bytes cursor.at span.end) m answer in
-        let low = o.from_low in
-        let long : m.start < m.end = grind (arith, common_steps, o, by.skips.built_so) in
-        record {
-          place = omega (arith, scans.unread, low, long);
-          calls = omega (arith, scans.calls, scans.onward, calls, low, long);
-        }
+        grind (arith, common_steps,
+          pick-Occurs picks (search_over s.built.ignores_case s.built.patterns bytes cursor.at span.end) m answer)
 
     says : (r : Option Occurrence) → IfSome r (HasReadMatch span.start begun after)
     says None = tt
@@ -130,44 +105,24 @@ module _ (s : Scan) (bytes : List ℕ) (span : Span) {needle : List ℕ} (by : S
     -- the pick of the rest is the match of the needle
     answers : {r : Option Occurrence} → IsNeedleMatch needle bytes cursor.at span.end r
         → pick picks (search_over s.built.ignores_case s.built.patterns bytes cursor.at span.end) ≡ r
-    answers {r} found =
-        subst (λ (i : Bool). pick picks (search_over i s.built.patterns bytes cursor.at span.end) ≡ r) (sym by.skips.serves.0)
-        (subst (λ (ps : List (List ℕ)). pick picks (search_over false ps bytes cursor.at span.end) ≡ r) (sym by.skips.serves.1)
-        (found picks))
+    answers {r} found = search rules
 
     pub searched-rest : (r : Option Occurrence) → IsNeedleMatch needle bytes cursor.at span.end r
         → HasSearched (picking_by s stops) searched r begun after
     searched-rest r found =
-        let answer = answers found in
-        record {
-          answer = picked-rest answer;
-          read = has_read;
-          says = says r;
-          stops = λ _. ends-there r answer;
-          dead = λ k low before. ready.is_at.alive k low (omega (arith, before, scans.unread));
-          decided = λ same. absurd (called same);
-        }
+        grind (arith, common_steps, answers, called, ends-there, has_read, picked-rest, ready, says)
 
 -- at the start of the span a find may read on: what the start state finds is picked
 ready-start : (s : Scan) (stops : Bool) (bytes : List ℕ) (span : Span) {state : ℕ} → s.stands state (Some [])
     → span.start ≤ length bytes → IsReady s (in_memory bytes span) stops (record { state = state; at = span.start })
-ready-start s stops bytes span there inside = record {
-  is_at = at-start s (in_memory bytes span) span.start there refl inside;
-  picked = sym (picked-start s stops bytes span inside);
-}
+ready-start s stops bytes span there inside = search (rules, at-start, picked-start)
 
 pub may-find-first : {v : ScannerView} {stops : Bool} {tape : Taped} {state : ℕ} → MaySearch v.span tape → v.front ≡ 0
     → v.span.end ≤ usize_max → v.span.start ≤ v.span.end → v.scan.stands state (Some []) → (stops ≡ false → is_leftmost v.scan.built.kind ≡ true)
     → MayFind v stops tape (record { state = state; at = v.span.start })
-may-find-first {v} {stops} {tape} may memory small ordered starts leftmost = record {
-  leftmost = leftmost;
-  within = ordered;
-  inside = may.end_within;
-  unread = may.unread;
-  memory = memory;
-  small = small;
-  ready = ready-start v.scan stops tape.bytes v.span starts (omega (arith, ordered, may.end_within));
-}
+may-find-first {v} {stops} {tape} may memory small ordered starts leftmost =
+    grind (arith, common_steps,
+      ready-start v.scan stops tape.bytes v.span starts (omega (arith, ordered, may.end_within)))
 
 -- what a find answers that begins there is said of its finder
 pub finds-in : (a : AutomatonView) {anchored : Anchored} {span : Span} {stops : Bool} {tape new_tape : Taped}
@@ -222,12 +177,7 @@ module _ {v : ScannerView} {stops : Bool} {tape : Taped} {start : Cursor} (begin
 
   -- its scanner may read on
   pub may-advance : MayAdvance v tape start
-  may-advance = record {
-    alive = (t, refl, alive);
-    before_end = begins.before_end;
-    inside = begins.inside;
-    unread = begins.unread;
-  }
+  may-advance = search (rules, alive)
 
   -- where it skips, and its scanner has passed over no match
   module _ (free : v.scan.anchored ≡ No) (some : list_any is_empty v.scan.built.patterns ≡ false) {counts : Counts}
@@ -241,30 +191,16 @@ module _ {v : ScannerView} {stops : Bool} {tape : Taped} {start : Cursor} (begin
         (passes t refl alive)
 
     ready : IsReady v.scan (in_memory tape_here.bytes v.span) stops here
-    ready =
-        subst (λ (bs : List ℕ). IsReady v.scan (in_memory bs v.span) stops here) (sym same)
-        (ready-passed v.scan stops tape.bytes v.span free some begins.leftmost passed)
+    ready = grind (arith, common_steps, ready-passed v.scan stops tape.bytes v.span free some begins.leftmost passed)
 
     -- it may read on from there
     pub may-find-passed : MayFind v stops tape_here here
-    may-find-passed =
-        let long = ap (length {A = ℕ}) same in
-        record {
-          leftmost = begins.leftmost;
-          within = within;
-          inside = omega (arith, long, begins.inside);
-          unread = passed.scans.unread;
-          memory = begins.memory;
-          small = begins.small;
-          ready = ready;
-        }
+    may-find-passed = search (rules, passed, ready)
 
     -- what was done before it began, and then as far as there
     scanned : {begun : Work} → ScansTo v.scan t v.span.start begun start.at (work_of tape counts)
         → ScansTo v.scan (in_memory tape_here.bytes v.span) v.span.start begun here.at (work_of tape_here counts_here)
-    scanned {begun} scans =
-        subst (λ (bs : List ℕ). ScansTo v.scan (in_memory bs v.span) v.span.start begun here.at (work_of tape_here counts_here))
-        (sym same) (scans-on scans (passes t refl alive).scans)
+    scanned {begun} scans = grind (arith, common_steps, scans-on scans (passes t refl alive).scans)
 
     -- what a find answers there it answers from where it began
     pub finds-passed : {found : Option Occurrence} {new_tape : Taped} {new_counts : Counts}

@@ -1,5 +1,5 @@
 -- Bytes that are gathered on their way to a writer: one piece and then another, and where a write fails.
-use Rattle.std.proofs.Common.{◌≡◌, ◌∙◌, ℕ, List, [], ◌++◌, length-append, append_assoc, append-nil, refl, sym, ap, subst, arith, Option, Some, None, Result, Ok, Err, MatchResult}
+use Rattle.std.proofs.Common.{◌≡◌, ◌∙◌, ℕ, List, [], ◌++◌, length-append, append_assoc, append-nil, refl, sym, ap, subst, arith, Option, Some, None, Result, Ok, Err, MatchResult, rules}
 use Rattle.std.proofs.Math.Seq.{take-append-add}
 use Rattle.std.proofs.lemmas.Grind.{common_steps}
 use Rattle.ac_automaton.specs.Util.{error_of, Replacing, StreamError, WriteError, WritesAll, WritesUntilFailure, Writing}
@@ -20,39 +20,25 @@ pub written-through : {a b : Writing} (c : Writing) {held : List ℕ} (piece : L
     (r : Result (Unit {0}) WriteError) → still ≡ []
     → WritesAll a b held → MatchResult r (λ _. WritesAll b c piece) (WritesUntilFailure b c piece)
     → MatchResult r (λ _. Gathers a c held piece still) (WritesUntilFailure a c (held ++ piece))
-written-through {a} {b} c {held} piece {still} (Ok done) none first second = record {
-  part = held ++ piece;
-  writes = writes-join a b c held piece first second;
-  whole = sym (ap (λ (w : List ℕ). held ++ piece ++ w) none ∙ append-nil (held ++ piece));
-}
+written-through {a} {b} c {held} piece {still} (Ok done) none first second =
+    grind (arith, common_steps, writes-join a b c held piece first second)
 written-through {a} {b} c {held} piece (Err e) none first second = fails-join a b c held piece e first second
 
 -- nothing was gathered
 gathers-none : (a : Writing) (held : List ℕ) → Gathers a a held [] held
-gathers-none a held = record {
-  part = [];
-  writes = grind (arith, common_steps);
-  whole = append-nil held;
-}
+gathers-none a held = search rules
 
 -- one piece was gathered, and then another
 gathers-join : (a b c : Writing) (held xs between ys still : List ℕ) → Gathers a b held xs between
     → Gathers b c between ys still → Gathers a c held (xs ++ ys) still
-gathers-join a b c held xs between ys still first second = record {
-  part = first.part ++ second.part;
-  writes = writes-join a b c first.part second.part first.writes second.writes;
-  whole =
-      sym (append_assoc held xs ys) ∙ ap (λ (w : List ℕ). w ++ ys) first.whole ∙ append_assoc first.part between ys
-      ∙ ap (λ (w : List ℕ). first.part ++ w) second.whole ∙ sym (append_assoc first.part second.part still);
-}
+gathers-join a b c held xs between ys still first second =
+    grind (arith, common_steps, writes-join a b c first.part second.part first.writes second.writes)
 
 -- or a write has failed
 gathers-fails : (a b c : Writing) (held xs between ys : List ℕ) (e : WriteError) → Gathers a b held xs between
     → WritesUntilFailure b c (between ++ ys) e → WritesUntilFailure a c (held ++ (xs ++ ys)) e
 gathers-fails a b c held xs between ys e first second =
-    subst (λ (w : List ℕ). WritesUntilFailure a c w e)
-    (sym (append_assoc first.part between ys) ∙ ap (λ (w : List ℕ). w ++ ys) (sym first.whole) ∙ append_assoc held xs ys)
-    (fails-join a b c first.part (between ++ ys) e first.writes second)
+    grind (arith, common_steps, fails-join a b c first.part (between ++ ys) e first.writes second)
 
 -- a failure before some bytes is one before those and more
 fails-longer : (a b : Writing) (xs ys : List ℕ) (e : WriteError) → WritesUntilFailure a b xs e
@@ -72,51 +58,24 @@ module _ {E D : Type 0} (passing : Passing E D) where
     gathers-join (passing.told s.destination) (passing.told t.destination) (passing.told u.destination)
         (passing.held s.closure) xs (passing.held t.closure) ys (passing.held u.closure) first.1 second.1,
   )
-  piece-join xs ys s t u (Some e) first second = (
-    second.0 ∙ first.0,
-    (
-      second.1.0,
-      second.1.1,
-      gathers-fails (passing.told s.destination) (passing.told t.destination) (passing.told u.destination)
-          (passing.held s.closure) xs (passing.held t.closure) ys second.1.0 first.1 second.1.2,
-    ),
-  )
+  piece-join xs ys s t u (Some e) first second = search (rules, gathers-fails)
 
   -- a piece that could not be passed on, and more
   pub piece-begun : (xs ys : List ℕ) (s t : Replacing E D) (e : StreamError) → PassesPiece passing xs s (Some e) t
       → PassesPiece passing (xs ++ ys) s (Some e) t
-  piece-begun xs ys s t e fails = (
-    fails.0,
-    (
-      fails.1.0,
-      fails.1.1,
-      subst (λ (w : List ℕ). WritesUntilFailure (passing.told s.destination) (passing.told t.destination) w fails.1.0)
-          (append_assoc (passing.held s.closure) xs ys)
-          (fails-longer (passing.told s.destination) (passing.told t.destination) (passing.held s.closure ++ xs) ys
-          fails.1.0 fails.1.2),
-    ),
-  )
+  piece-begun xs ys s t e fails = grind (arith, common_steps, fails-longer)
 
   -- where nothing was held back before it nor is after it, it was written
   pub piece-written : (bytes : List ℕ) (s t : Replacing E D) → passing.held s.closure ≡ [] → passing.held t.closure ≡ []
       → PassesPiece passing bytes s None t → WritesAll (passing.told s.destination) (passing.told t.destination) bytes
-  piece-written bytes s t begins clear passes =
-      subst (WritesAll (passing.told s.destination) (passing.told t.destination))
-      (sym (append-nil passes.1.part) ∙ ap (λ (w : List ℕ). passes.1.part ++ w) (sym clear) ∙ sym passes.1.whole
-      ∙ ap (λ (w : List ℕ). w ++ bytes) begins)
-      passes.1.writes
+  piece-written bytes s t begins clear passes = search rules
 
   -- or a beginning of it
   pub piece-failed : (bytes : List ℕ) (s t : Replacing E D) (e : StreamError) → passing.held s.closure ≡ []
       → PassesPiece passing bytes s (Some e) t
       → (failure : WriteError) × (e ≡ error_of failure)
       × WritesUntilFailure (passing.told s.destination) (passing.told t.destination) bytes failure
-  piece-failed bytes s t e begins fails = (
-    fails.1.0,
-    fails.1.1,
-    subst (λ (w : List ℕ). WritesUntilFailure (passing.told s.destination) (passing.told t.destination) (w ++ bytes) fails.1.0)
-        begins fails.1.2,
-  )
+  piece-failed bytes s t e begins fails = search rules
 
   -- what is held back after a piece was written, or that has failed
   pub piece-flushed : (bytes : List ℕ) (s t u : Replacing E D) (end : Option StreamError)

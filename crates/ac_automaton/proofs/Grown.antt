@@ -151,11 +151,7 @@ module _ (g : TrieView) (states : List State) (v : Node) (t : State) where
       each s w e (inl before) l =
           subst (λ (u : State). Represents g s w u)
           (sym (get_or_append_left states (t ∷ []) (state_at [] 0) s before)) (a.each s w before e)
-      each s w e (inr at) l =
-          let here : length states ≡ s = omega arith in
-          let same = get-same g.nodes s v w (subst (λ (k : ℕ). slice_get g.nodes k ≡ Some v) here node) e in
-          subst (λ (u : State). Represents g s w u) (sym (get_or_push states t (state_at [] 0) s here))
-          (subst (λ (x : Node). Represents g s x t) same (subst (λ (k : ℕ). Represents g k v t) here r))
+      each s w e (inr at) l = search (rules, get-same, get_or_push)
 
 -- a state that was read by its number
 pub state-read : (states : List State) (t : State) (k s : ℕ) → k ≡ s → s < length states → t ≡ get_or states k t

@@ -1,5 +1,5 @@
 -- The transitions by a plain byte, and those of a state in ascending order.
-use Rattle.std.proofs.Common.{◌≡◌, ◌≢◌, ℕ, ◌+◌, ◌<◌, ◌≤◌, Bool, true, List, [], ◌∷◌, length, get_or, inl, inr, sym, ◌∙◌, arith, AllPairs, nat_eq}
+use Rattle.std.proofs.Common.{◌≡◌, ◌≢◌, ℕ, ◌+◌, ◌<◌, ◌≤◌, Bool, true, List, [], ◌∷◌, length, get_or, inl, inr, sym, ◌∙◌, arith, AllPairs, nat_eq, rules}
 use Rattle.std.specs.Char.{is_ascii_lowercase, to_ascii_lowercase, to_ascii_uppercase}
 use Rattle.std.specs.List.Sorted.{IsPermutation, IsSortedByKey, IsStrictlyIncreasing}
 use Rattle.std.specs.Ordering.{nat_cmp}
@@ -78,7 +78,4 @@ sorted-ascends old sorted apart moved up k within =
     (omega arith) differ
   where
     strict : (x y : ℕ) → x ≤ y → x ≢ y → x < y
-    strict x y le apart = elim (cases_lt x y) [
-      | inl less ↦ less
-      | inr more ↦ absurd (apart (omega arith))
-    ]
+    strict x y le apart = search (rules, cases_lt)

@@ -205,11 +205,6 @@ module _ (s : Scan) (bytes : List ℕ) (span : Span) where
         → Lists s.built s.anchored (node s t cursor.at) (s.listed cursor.state)
         → HasComeOn reached (arrived cursor.state cursor.at)
     come-on before lists =
-        grind (
-          arith,
-          common_steps,
+        search (rules, all-quiet, arrives, given-arrived, listing-next,
           all-quiet (cursor.at - 1 - reached.at) (omega arith),
-          listing-next standard (cursor.at - 1) (omega arith) (omega arith),
-          arrives,
-          given-arrived,
-        )
+          listing-next standard (cursor.at - 1) (omega arith) (omega arith))

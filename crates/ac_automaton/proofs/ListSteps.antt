@@ -1,5 +1,6 @@
 -- A listing on its way: it has read on, and has given no item yet.
-use Rattle.std.proofs.Common.{◌≡◌, ◌⊎◌, ◌<◌, ℕ, [], IsTrue, ◌↔◌, Bool, false, length, ap, subst, sym, ◌∙◌, inl, inr, arith, Option, Some, None}
+use Rattle.std.proofs.lemmas.Grind.{common_steps}
+use Rattle.std.proofs.Common.{◌≡◌, ◌⊎◌, ◌<◌, ℕ, [], IsTrue, ◌↔◌, Bool, false, length, ap, subst, sym, ◌∙◌, inl, inr, arith, Option, Some, None, rules}
 use Rattle.std.proofs.lemmas.Bool.{cases_lt, false≢true}
 use Rattle.ac_automaton.specs.Util.{Counts, Node, Occurrence, Taped}
 use Rattle.ac_automaton.specs.Scans.{IsOver}
@@ -44,9 +45,7 @@ module _ {v : ScannerView} {start : Reached} {tape : Taped} {counts : Counts} (m
   }
 
   pub gives-item : {m : Occurrence} → found ≡ Some m → ListsOn v start tape counts (Some m) left tape_here counts_here
-  gives-item {m} is =
-      subst (λ (r : Option Occurrence). ListsOn v start tape counts r left tape_here counts_here) is
-      (lists-on (λ none. let both = sym is ∙ none in absurd (cc)))
+  gives-item {m} is = search (rules, lists-on)
 
   module _ (none : found ≡ None) where
     -- where none is given the listing stays
@@ -65,12 +64,7 @@ module _ {v : ScannerView} {start : Reached} {tape : Taped} {counts : Counts} (m
         (says : IsTrue test ↔ IsOver v.span.end left.at (node v.scan (in_memory tape.bytes v.span) reached.at)) where
       -- it has none left where nothing is left to read
       pub ends-listing : IsTrue test → ListsOn v start tape counts None left tape_here counts_here
-      ends-listing holds =
-          subst (λ (r : Option Occurrence). ListsOn v start tape counts r left tape_here counts_here) none
-          (lists-on (λ nothing. elim (says.0 holds) [
-            | inl end ↦ let within = on.on.leaves.within in inl (omega (arith, end, gave.at, within))
-            | inr dead ↦ inr dead
-          ]))
+      ends-listing holds = search (rules, gave, lists-on)
 
       -- and else may read on
       module _ (fails : test ≡ false) where
@@ -78,24 +72,10 @@ module _ {v : ScannerView} {start : Reached} {tape : Taped} {counts : Counts} (m
         alive = record { is_at = on.on.leaves.reaches; living = λ dead. false≢true (sym fails ∙ says.1 (inr dead)) }
 
         before-end : left.at < v.span.end
-        before-end = elim (cases_lt left.at v.span.end) [
-          | inl before ↦ before
-          | inr over ↦ absurd (false≢true (sym fails ∙ says.1 (inl over)))
-        ]
+        before-end = search (rules, cases_lt, false≢true)
 
         pub may-list-on : MayAdvance v tape_here (cursor_of left)
-        may-list-on =
-            let long = ap (length {A = ℕ}) on.bytes in
-            record {
-              alive = (
-                in_memory tape.bytes v.span,
-                sym on.bytes,
-                subst (λ (r : Reached). IsAlive v.scan (in_memory tape.bytes v.span) (cursor_of r)) (sym stayed) alive,
-              );
-              before_end = before-end;
-              inside = omega (arith, long, may.inside);
-              unread = omega (arith, on.scans.unread, gave.at);
-            }
+        may-list-on = search (rules, alive, before-end, gave, stayed)
 
         -- so it comes to a state whose matches are all due
         pub lists-next : {there : Cursor} {new_tape : Taped} {new_counts : Counts}

@@ -84,10 +84,7 @@ module _ (g : TrieView) (states : List State) where
     -- and where the output link is to the dead state, that was all
     pub counting-end : (count : ℕ) → Counting u s count → t.output_link ≡ DEAD
         → count + (t.patterns_end - t.patterns) ≡ length (all_matches g u)
-    counting-end count o last =
-        let r = represented g states s o.node t o.state is in
-        let alone = ap (length {A = ℕ}) (none-linked s o.node t o.state r last) in
-        omega (arith, length-listed s o.node t o.state r, o.counted, alone)
+    counting-end count o last = grind (arith, common_steps, represented g states s o.node t o.state is)
 
     module _ (index left : ℕ) (o : Seeking u index s left) where
       -- the first of them is one of the state's own
@@ -108,11 +105,7 @@ module _ (g : TrieView) (states : List State) where
       -- and where that is to the dead state there are no more
       pub seeking-end : t.patterns_end - t.patterns ≤ left → t.output_link ≡ DEAD
           → drop index (all_matches g u) ≡ []
-      seeking-end past last =
-          let r = represented g states s o.node t o.state is in
-          let more = left - (t.patterns_end - t.patterns) in
-          o.same ∙ linked-from s o.node t o.state r left past
-          ∙ ap (drop more) (none-linked s o.node t o.state r last) ∙ drop-nil more
+      seeking-end past last = grind (arith, common_steps, represented g states s o.node t o.state is)
 
       -- any other output link leads to a smaller number
       pub seeking-back : t.output_link ≢ DEAD → t.output_link < s

@@ -59,12 +59,7 @@ module _ (s : Scan) (bytes : List ℕ) (span : Span) (start : ℕ) (starts : s.s
   -- an iterator over it has read nothing
   pub listing-starts : s.anchored ≡ No
       → IsListing s (in_memory bytes span) (Some (arrived s bytes span start span.start)) nothing_done
-  listing-starts unanchored = record {
-    standard = standard;
-    unanchored = unanchored;
-    legal = legal;
-    begun = (goes_on-start.on, scans-nothing s (in_memory bytes span) (omega arith));
-  }
+  listing-starts unanchored = search (rules, goes_on-start, scans-nothing)
 
 -- what a call has given that went on from there
 pub gives-moved : (s : Scan) (t : ScanText) (state : OverlappingState) (here : Reached) (found : Option Occurrence)

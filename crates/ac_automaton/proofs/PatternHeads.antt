@@ -1,5 +1,5 @@
 -- The first bytes of a pattern as one number: how large it is, and that these numbers are in the order of the patterns.
-use Rattle.std.proofs.Common.{◌≡◌, ℕ, zero, suc, add-one, ◌+◌, ◌*◌, ◌^◌, ◌<◌, Bool, List, [], ◌∷◌, inl, inr, refl, sym, ap, ◌∙◌, arith, slice_index_or}
+use Rattle.std.proofs.Common.{◌≡◌, ℕ, zero, suc, add-one, ◌+◌, ◌*◌, ◌^◌, ◌<◌, Bool, List, [], ◌∷◌, inl, inr, refl, sym, ap, ◌∙◌, arith, slice_index_or, rules}
 use Rattle.std.specs.Cmp.Lexicographic.{slice_cmp}
 use Rattle.std.specs.Ordering.{nat_cmp, ordering_reverse, ordering_then}
 use Rattle.std.specs.declared.cmp.Ordering.{Ordering}
@@ -28,9 +28,7 @@ head_of-push n u = ap (λ k. head_of k u) (add-one n)
 
 -- a number of n bytes, and one byte more
 pub head-bound : (n : ℕ) (head b : ℕ) → head < 256 ^ n → b < 256 → head * 256 + b < 256 ^ (n + 1)
-head-bound n head b bound small =
-    let power : 256 ^ (n + 1) ≡ 256 ^ n * 256 = ap (λ w. 256 ^ w) (add-one n) ∙ pow-suc 256 n in
-    omega (arith, bound, small, power)
+head-bound n head b bound small = grind (arith, common_steps, pow-suc)
 
 -- a number of up to seven bytes has room for one more
 pub head-fits : (n head b : ℕ) → n < 8 → head < 256 ^ n → b < 256 → head * 256 + b < 2 ^ 64
@@ -63,10 +61,7 @@ first-difference : (n : ℕ) (a b : List ℕ) → ((k : ℕ) → k < n → slice
     → slice_index_or a n 0 < slice_index_or b n 0 → slice_cmp nat_cmp a b ≡ Less
 first-difference n a [] same less = absurd (omega (arith, less))
 first-difference n [] (y ∷ b) same less = refl
-first-difference zero (x ∷ a) (y ∷ b) same less = by_rank (nat_cmp x y) refl
-  where
-    by_rank : (o : Ordering) → o ≡ nat_cmp x y → slice_cmp nat_cmp (x ∷ a) (y ∷ b) ≡ Less
-    by_rank o is = grind (arith, common_steps, ranked x y o is, less)
+first-difference zero (x ∷ a) (y ∷ b) same less = search (rules, ranked)
 first-difference (suc n) (x ∷ a) (y ∷ b) same less =
     by_rank (nat_cmp x y) refl (first-difference n a b (λ k h. same (suc k) (omega (arith, h))) less)
   where
@@ -104,25 +99,16 @@ module _ (ignores_case : Bool) (a b : SortedPattern) where
   -- where heads and bytes compare alike and differ, both orders give that answer
   both : (o : Ordering) → nat_cmp a.head b.head ≡ o → slice_cmp nat_cmp left right ≡ o
       → compared ignores_case a b ≡ compared_by_bytes ignores_case a b
-  both Less heads bytes =
-      ap (λ o. ordering_then o (compared_by_bytes ignores_case a b)) heads
-      ∙ sym (ap (λ o. ordering_then o (nat_cmp a.number b.number)) bytes)
+  both Less heads bytes = search rules
   both Equal heads bytes = ap (λ o. ordering_then o (compared_by_bytes ignores_case a b)) heads
-  both Greater heads bytes =
-      ap (λ o. ordering_then o (compared_by_bytes ignores_case a b)) heads
-      ∙ sym (ap (λ o. ordering_then o (nat_cmp a.number b.number)) bytes)
+  both Greater heads bytes = search rules
 
   -- as the heads compare, so do the patterns
   by_heads : (o : Ordering) → o ≡ nat_cmp a.head b.head → HasHead ignores_case a → HasHead ignores_case b
       → compared ignores_case a b ≡ compared_by_bytes ignores_case a b
-  by_heads Less is x y =
-      both Less (sym is) (head-less head_len left right x.small y.small
-      (omega (arith, x.value, y.value, ranked a.head b.head Less is)))
+  by_heads Less is x y = search (rules, both, head-less, nat_list_cmp_total, ranked)
   by_heads Equal is x y = ap (λ o. ordering_then o (compared_by_bytes ignores_case a b)) (sym is)
-  by_heads Greater is x y =
-      both Greater (sym is) (nat_list_cmp_total.antisymm left right
-      ∙ ap ordering_reverse (head-less head_len right left y.small x.small
-      (omega (arith, x.value, y.value, ranked a.head b.head Greater is))))
+  by_heads Greater is x y = search (rules, both, head-less, nat_list_cmp_total, ranked)
 
   -- two patterns with their heads compare as their bytes do
   pub compared-by_bytes : HasHead ignores_case a → HasHead ignores_case b

@@ -75,14 +75,10 @@ module _ (kind : MatchKind) (patterns : List (List ℕ)) (sorted : List Keyed)
   -- and each pattern that takes part has a place
   pub place-at : (n : ℕ) → IsIn n (participants kind patterns) → IsInRange n
   place-at n h =
-      grind (
-        arith,
-        common_steps,
+      search (rules, Contains-from_IsIn, IsIn-from_Contains, at-place, get-same, length-map, place-of,
         place-of n (numbers sorted) (IsIn-from_Contains n (numbers sorted) ((order.lists n).1 (Contains-from_IsIn n (participants kind patterns) h))),
-        length-map,
-        at-place,
-        get-same,
-      )
+        IsIn-from_Contains n (numbers sorted) ((order.lists n).1 (Contains-from_IsIn n (participants kind patterns) h)),
+        Contains-from_IsIn n (participants kind patterns) h)
 
   -- a prefix of a pattern leads to a node
   pub pattern-node : (k : ℕ) (u : List ℕ) → k < length sorted → starts_with nat_eq (key_at sorted k) u ≡ true
@@ -115,13 +111,7 @@ module _ (kind : MatchKind) (patterns : List (List ℕ)) (sorted : List Keyed)
       high : place < to
 
     string-at : (n : ℕ) → IsIn n (equal_to kind patterns u) → IsStringAt n
-    string-at n h =
-        let e = IsIn-from_filter (λ m. bytes_eq (pattern_of patterns m) u) n (participants kind patterns) h in
-        let s = place-at n e.0 in
-        let key : key_at sorted s.place ≡ u = s.stands.key ∙ (bytes_eq-Decides (pattern_of patterns n) u).0 e.1 in
-        let there = (range.begins s.place s.stands.within).1
-        (subst (λ (w : List ℕ). starts_with nat_eq w u ≡ true) (sym key) (starts_with-itself u)) in
-        record { place = s.place; stands = s.stands; key = key; low = there.0; high = there.1 }
+    string-at n h = search (rules, IsIn-from_filter, bytes_eq-Decides, place-at, starts_with-itself)
 
     -- the patterns that are the string stand before the range
     module _ (end : ℕ) (later : from ≤ end) (within : end ≤ to)
@@ -187,14 +177,10 @@ module _ (kind : MatchKind) (patterns : List (List ℕ)) (sorted : List Keyed)
     -- the first of the range is the string exactly if some pattern that takes part is
     pub equal_to-some : from < to → byte_at sorted (length u) from ≡ None → equal_to kind patterns u ≢ []
     equal_to-some some ends none =
-        grind (
-          arith,
-          common_steps,
+        search (rules, IsIn-filter, at-place, begins, none-from_nil, starts_with-ended,
           at-place from (omega (arith, range.within)),
           starts_with-ended (key_at sorted from) u (begins from (omega arith) some) ends,
-          none-from_nil,
-          IsIn-filter,
-        )
+          begins from (omega arith) some)
 
     -- and where it is longer, none is
     pub equal_to-none : byte_at sorted (length u) from ≢ None → equal_to kind patterns u ≡ []

@@ -1,5 +1,5 @@
 -- Reading on up to a match: where the automaton stands, and that it has passed over none.
-use Rattle.std.proofs.Common.{◌≡◌, ◌≢◌, ◌⊎◌, ℕ, ◌+◌, ◌<◌, ◌≤◌, ◌↔◌, Bool, false, IsTrue, List, [], length, ap, inl, inr, subst, sym, refl, ◌++◌, ◌∷◌, ◌∙◌, arith, None}
+use Rattle.std.proofs.Common.{◌≡◌, ◌≢◌, ◌⊎◌, ℕ, ◌+◌, ◌<◌, ◌≤◌, ◌↔◌, Bool, false, IsTrue, List, [], length, ap, inl, inr, subst, sym, refl, ◌++◌, ◌∷◌, ◌∙◌, arith, None, rules}
 use Rattle.std.proofs.lemmas.Bool.{cases_lt, false≢true}
 use Rattle.std.proofs.lemmas.Grind.{common_steps}
 use Rattle.ac_util.specs.declared.search.Anchored.{Anchored}
@@ -74,26 +74,13 @@ pub record ComesOn (v : ScannerView) (start : Cursor) (tape : Taped) (counts : C
 module _ {v : ScannerView} {start : Cursor} {tape : Taped} {counts : Counts} (may : MayAdvance v tape start) where
   -- as it begins
   pub comes-start : ComesOn v start tape counts start tape counts
-  comes-start = record {
-    bytes = refl;
-    onward = omega arith;
-    before_end = may.before_end;
-    along = λ t same alive. along-start alive may.unread;
-  }
+  comes-start = search (rules, along-start)
 
   module _ {here : Cursor} {tape_here : Taped} {counts_here : Counts} (on : ComesOn v start tape counts here tape_here counts_here)
     where
       -- it may read on
       pub may-go-on : MayAdvance v tape_here here
-      may-go-on =
-          let r = may.alive in
-          let long = ap (length {A = ℕ}) on.bytes in
-          record {
-            alive = (r.0, r.1 ∙ sym on.bytes, (on.along r.0 r.1 r.2).alive);
-            before_end = on.before_end;
-            inside = omega (arith, long, may.inside);
-            unread = (on.along r.0 r.1 r.2).scans.unread;
-          }
+      may-go-on = search rules
 
 module _ {v : ScannerView} {start : Cursor} {tape : Taped} {counts : Counts} {here : Cursor} {tape_here : Taped}
     {counts_here : Counts} (on : ComesOn v start tape counts here tape_here counts_here) {then_cursor : Cursor}

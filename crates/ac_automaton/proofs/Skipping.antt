@@ -1,5 +1,6 @@
 -- Bytes with which no pattern begins don't lead away from the start, where nothing is found either if no pattern is
 -- empty.
+use Rattle.std.proofs.lemmas.Grind.{common_steps}
 use Rattle.std.proofs.Common.{rules, ◌≡◌, ℕ, zero, suc, ◌+◌, ◌-◌, ◌<◌, ◌≤◌, Bool, true, false, List, [], ◌∷◌, length, map, refl, ap, sym, ◌∙◌, subst, inl, inr, arith, Some, None, nat_eq, slice_index}
 use Rattle.std.specs.List.{list_any, starts_with}
 use Rattle.std.proofs.lemmas.Bool.{or_right, false≢true, false_from_ne_true, cases_lt}
@@ -128,24 +129,14 @@ module _ {v : ScannerView} {bytes : List ℕ} (by : SkipsTo v.scan bytes) {tape 
     in-text = let long = ap (length {A = ℕ}) same in omega (arith, long, within, may.inside)
 
     stays-there : StaysAtStart v.scan t cursor.at to
-    stays-there =
-        stays by t cursor.at to alive.is_at.onward in-text
-        (subst (λ (bs : List ℕ). Nowhere (Passes (is_one_of bytes) bs) cursor.at to) (sym same) none)
-        (start _ alive.is_at.there)
+    stays-there = grind (arith, common_steps, stays by t cursor.at to alive.is_at.onward)
 
     alive-there : IsAlive v.scan t there
     alive-there = alive-skipped by alive in-text onward stays-there
 
   -- there it may read on
   pub may-skipped : to < v.span.end → MayAdvance v tape there
-  may-skipped before =
-      let r = may.alive in
-      record {
-        alive = (r.0, r.1, alive-there r.0 r.1 r.2);
-        before_end = before;
-        inside = may.inside;
-        unread = omega (arith, may.unread, onward);
-      }
+  may-skipped before = search (rules, alive-there)
 
   module _ {counts new_counts : Counts} (called : new_counts ≡ one_more_call counts) where
     -- and then it has read on from where it was

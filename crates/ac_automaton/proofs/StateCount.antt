@@ -51,9 +51,7 @@ module _ (kind : MatchKind) (patterns : List (List ℕ)) (sorted : List Keyed)
   -- a string with a range is a node
   range-node : (u : List ℕ) (from to : ℕ) → IsRangeOf sorted u from to → from < to
       → is_node kind patterns u ≡ true
-  range-node u from to range some =
-      let inside : from < length sorted = (omega (arith, range.within)) in
-      pattern-node kind patterns sorted order from u inside ((range.begins from inside).0 (omega arith, some))
+  range-node u from to range some = grind (arith, common_steps, pattern-node kind patterns sorted order from u)
 
   -- each string of the queue is an inner node
   word-inner : (u : List ℕ) → IsIn u words → IsIn u (inner_nodes kind patterns)
@@ -119,9 +117,7 @@ module _ (kind : MatchKind) (patterns : List (List ℕ)) (sorted : List Keyed)
         (longer : is_node kind patterns (w ++ b ∷ []) ≡ true) where
       -- the byte is a plain one
       settled-byte : plain_byte ignores_case b ≡ b
-      settled-byte =
-          let m = some_node kind patterns sorted order w b longer in
-          settled m.0 (length w) b (starts_with-last (key_at sorted m.0) w b m.2)
+      settled-byte = search (rules, some_node, starts_with-last, some_node kind patterns sorted order w b longer)
 
       -- an anchored search goes on by it
       onto : step kind patterns Yes (Some w) (plain_byte ignores_case b) ≡ Some (w ++ b ∷ [])
@@ -139,10 +135,7 @@ module _ (kind : MatchKind) (patterns : List (List ℕ)) (sorted : List Keyed)
       leads-on : (t : Transition) (k : ℕ)
           → slice_get (transitions_of transitions (state_at states s)) k ≡ Some t → t.byte ≡ b
           → slice_get (nodes_of sorted queue) t.target ≡ Some (Some (w ++ b ∷ []))
-      leads-on t k e is =
-          represented.leads k t e
-          ∙ ap (λ (v : Node). Some v)
-          (ap (λ (x : ℕ). step kind patterns Yes (Some w) (plain_byte ignores_case x)) is ∙ onto)
+      leads-on t k e is = search (rules, onto, represented)
 
       -- and there is one
       onward : HasNumber (w ++ b ∷ [])

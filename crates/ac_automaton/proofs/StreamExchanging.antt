@@ -161,14 +161,7 @@ module _ {E D : Type 0} (passing : Passing E D)
       pub gap-fails : (e : StreamError) (t : Replacing E D)
           → PassesPiece passing (slice_range v.bytes v.kept m.start) s (Some e) t
           → Steps passing calls (take gives.settled.place v.bytes) 0 (take gives.settled.given (matches_so_far v)) first (Some e) t
-      gap-fails e t gap =
-          subst (λ (ns : List Occurrence). Steps passing calls (take place v.bytes) 0 ns first (Some e) t) cut.1
-          (done.steps (take place v.bytes) kept-alike (m ∷ cut.0) gives.after (Some e) t
-          (inl (
-            (λ none. absurd (cc)),
-            subst (λ (w : List ℕ). PassesPiece passing w s (Some e) t)
-                (sym (part-same (take place v.bytes) v.bytes m.end v.kept m.start alike gives.after gives.ordered)) gap,
-          )))
+      gap-fails e t gap = search (rules, alike, cut, kept-alike, part-same)
 
 module _ {E D : Type 0} (passing : Passing E D)
     (calls : Occurrence → List ℕ → Replacing E D → Result (Unit {0}) StreamError → Replacing E D → Type 0) where
@@ -197,14 +190,7 @@ module _ {E D : Type 0} (passing : Passing E D)
     pub last-fails : (e : StreamError) (t : Replacing E D)
         → PassesPiece passing (slice_range v.bytes v.kept new.kept) s (Some e) t
         → FailsToExchange passing calls old start e t
-    last-fails e t fails first done =
-        subst (λ (w : Streaming). (given place : ℕ) × IsSettledIn w.phase w.built w.bytes given place
-        × Steps passing calls (take place w.bytes) 0 (take given (matches_so_far w)) first (Some e) t) same (
-          v.given,
-          new.kept,
-          all.settled,
-          settled-fails passing calls v first s (replaced first done) new.kept e t all.onward fails,
-        )
+    last-fails e t fails first done = search (rules, settled-fails)
 
     -- they were passed on, and then what is held back was written, or that has failed
     pub last-flushed : (t u : Replacing E D) (r : Result (Unit {0}) StreamError)
@@ -269,19 +255,7 @@ module _ {E D : Type 0} (passing : Passing E D)
     -- or a read has failed
     pub fails-reading : IsSettledIn v.phase v.built v.bytes v.given v.kept → IsNear v.built v.bytes v.kept → (e : StreamError)
         → FailsToFill v new reader new_reader e → FailsBy passing calls ends built begun new_reader first e s
-    fails-reading settled near e fails = (
-      v.bytes,
-      inl (record {
-        given = v.given;
-        place = v.kept;
-        reads = fails-on new_reader 0 (length v.bytes) v.bytes (omega arith) on.reads e fails.reads;
-        settled = settled-open v v.given v.kept on.built_is on.goes_on settled;
-        near = subst (λ (b : Built). IsNear b v.bytes v.kept) on.built_is near;
-        clear = on.clear;
-        steps = steps-by v v.given v.kept None s on.built_is (replaced-all passing calls v first s v.kept on.replaced refl);
-      }),
-      on.small,
-    )
+    fails-reading settled near e fails = search (rules, fails-on, on, replaced-all, settled-open, steps-by)
 
   module _ {reader : Reading} {v : Streaming} {s : Replacing E D} where
     -- what was found in what was read was exchanged
@@ -292,17 +266,7 @@ module _ {E D : Type 0} (passing : Passing E D)
     -- or that has failed
     pub fails-exchanging : IsReplacing reader v s → (e : StreamError) (t : Replacing E D) → FailsToExchange passing calls v s e t
         → FailsBy passing calls ends built begun reader first e t
-    fails-exchanging on e t fails =
-        let made = fails first on.replaced in (
-          v.bytes,
-          inr (
-            made.0,
-            made.1,
-            inl (on.reads, settled-open v made.0 made.1 on.built_is on.goes_on made.2),
-            steps-by v made.0 made.1 (Some e) t on.built_is made.3,
-          ),
-          on.small,
-        )
+    fails-exchanging on e t fails = search (rules, on, settled-open, steps-by)
 
     -- at the end all was written
     pub replaces : {new : Streaming} {t : Replacing E D} → IsEnding reader v s → HasExchanged passing calls v new s t
@@ -312,14 +276,4 @@ module _ {E D : Type 0} (passing : Passing E D)
     -- or that has failed
     pub fails-at-last : IsEnding reader v s → (e : StreamError) (t : Replacing E D) → FailsToExchange passing calls v s e t
         → FailsBy passing calls ends built begun reader first e t
-    fails-at-last on e t fails =
-        let made = fails first on.replaced in (
-          v.bytes,
-          inr (
-            made.0,
-            made.1,
-            inr (let all = settled-ended v made.0 made.1 on.built_is on.ended made.2 in (on.reads, all.0, all.1)),
-            steps-by v made.0 made.1 (Some e) t on.built_is made.3,
-          ),
-          on.small,
-        )
+    fails-at-last on e t fails = search (rules, on, settled-ended, steps-by)

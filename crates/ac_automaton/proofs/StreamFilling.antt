@@ -102,18 +102,7 @@ module _ (stands : ℕ → Node → Type 0) (i : Inside) (v : Streaming) (inv : 
   -- the matches that were given stay as they are, whichever bytes follow
   pub given-stays : (more : List ℕ) → (v.phase ≡ Ended → ⊥)
       → take v.given (stream_result v.built (v.bytes ++ more)) ≡ take v.given (stream_result v.built v.bytes)
-  given-stays more goes_on =
-      taken (v.bytes ++ more) _ (inv.given.walks more (λ ended. absurd (goes_on ended)))
-      ∙ sym (taken v.bytes _ (subst (λ (w : List ℕ). stream_result v.built w
-      ≡ inv.given.matches ++ walk_after v.built.kind (stream_from v.built w i.begun) inv.given.last)
-      (append-nil v.bytes) (inv.given.walks [] (λ ended. refl))))
-    where
-      taken : (bytes : List ℕ) (rest : List Occurrence) → stream_result v.built bytes ≡ inv.given.matches ++ rest
-          → take v.given (stream_result v.built bytes) ≡ inv.given.matches
-      taken bytes rest e =
-          ap (take v.given) e
-          ∙ ap (λ (n : ℕ). take n (inv.given.matches ++ rest)) (sym inv.given.count)
-          ∙ take-append_seam inv.given.matches rest
+  given-stays more goes_on = grind (arith, common_steps, append-nil v.bytes)
 
   -- what stands after the bytes read has changed
   module _ (open' : v.phase ≡ Open) (buffer : List ℕ) (long : length buffer ≡ length i.buffer)

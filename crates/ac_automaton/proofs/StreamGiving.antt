@@ -136,14 +136,9 @@ module _ (stands : ℕ → Node → Type 0) (listed : ℕ → List ℕ) (most : 
           ≡ (inv.given.matches ++ m ∷ [])
           ++ walk_after v.built.kind (stream_from v.built (v.bytes ++ more) m.end) (Some m.end)
       walks-on last =
-          let o = occurs.as_long in let s = some-bytes in
-          inv.given.walks more last
-          ∙ ap (λ (ms : List Occurrence). inv.given.matches ++ ms)
-          (walk_after-Some v.built.kind (stream_from v.built (v.bytes ++ more) i.begun) inv.given.last m
-          (next-some v.built.kind (stream_from v.built (v.bytes ++ more) i.begun) inv.given.last m (stays-pick last)
-          (omega arith)))
-          ∙ sym (append_assoc inv.given.matches (m ∷ [])
-          (walk_after v.built.kind (stream_from v.built (v.bytes ++ more) m.end) (Some m.end)))
+          search (rules, append_assoc, next-some, occurs, some-bytes, stays-pick, walk_after-Some, occurs.as_long,
+            walk_after-Some v.built.kind (stream_from v.built (v.bytes ++ more) i.begun),
+            next-some v.built.kind (stream_from v.built (v.bytes ++ more) i.begun), stays-pick last)
 
     next-there : slice_get (stream_result v.built v.bytes) v.given ≡ Some m
     next-there = grind (arith, common_steps, append-nil v.bytes, walks-on, get-beyond)
@@ -170,12 +165,7 @@ module _ (stands : ℕ → Node → Type 0) (listed : ℕ → List ℕ) (most : 
 
         settles : (given place : ℕ) → IsSettledBy v.built.kind v.built v.bytes given place
             → (v.phase ≡ Ended → ⊥) → IsSettledIn v.phase v.built v.bytes given place
-        settles given place h open' = by-phase v.phase refl
-          where
-            by-phase : (p : Phase) → v.phase ≡ p → IsSettledIn p v.built v.bytes given place
-            by-phase Open e = h
-            by-phase Failed e = h
-            by-phase Ended e = absurd (open' e)
+        settles given place h open' = search rules
 
         standard : v.built.kind ≡ Standard → (v.phase ≡ Ended → ⊥) → IsSettling v m
         standard is_standard open' = record {
@@ -195,15 +185,9 @@ module _ (stands : ℕ → Node → Type 0) (listed : ℕ → List ℕ) (most : 
             → IsSettledAt v.built v.bytes (length (inv.given.matches ++ m ∷ [])) m.end → (v.phase ≡ Ended → ⊥)
             → IsSettling v m
         by-leftmost first h open' =
-            let long = length-append inv.given.matches (m ∷ []) in let count = inv.given.count in
-            record {
-              given = length (inv.given.matches ++ m ∷ []);
-              place = m.end;
-              settled = settles (length (inv.given.matches ++ m ∷ [])) m.end
-                  (settled-kind v.built v.bytes (length (inv.given.matches ++ m ∷ [])) m.end v.built.kind first h) open';
-              among = omega arith;
-              ended = omega arith;
-            }
+            grind (arith, common_steps,
+              settles (length (inv.given.matches ++ m ∷ [])) m.end (settled-kind v.built v.bytes (length (inv.given.matches ++ m ∷ [])) m.end v.built.kind first h) open',
+              settled-kind v.built v.bytes (length (inv.given.matches ++ m ∷ [])) m.end v.built.kind first h)
 
         leftmost-settles : is_leftmost v.built.kind ≡ true → (v.phase ≡ Ended → ⊥)
             → IsSettledAt v.built v.bytes (length (inv.given.matches ++ m ∷ [])) m.end

@@ -72,11 +72,10 @@ module _ (stands : ℕ → Node → Type 0) (listed : ℕ → List ℕ) (most : 
           by : (u : Node) → here ≡ u → length v.bytes ≤ m.start + longest_len v.built.patterns
           by None dead = absurd (alive dead)
           by (Some u) stands' =
-              let beyond = pick-beyond v.built.kind (up_to v i.begun (v.front + at)) refl on.is_at.onward (within-bytes inv on) first u
-              stands' v.built.kind m (sym on.picks ∙ is) in
-              let short = node-short v.built.kind (up_to v i.begun (v.front + at)) refl on.is_at.onward (within-bytes inv on) u stands' in
-              let e = end-is in
-              omega arith
+              grind (arith, common_steps,
+                pick-beyond v.built.kind (up_to v i.begun (v.front + at)) refl on.is_at.onward (within-bytes inv on) first u stands' v.built.kind m (sym on.picks ∙ is),
+                up_to v i.begun (v.front + at),
+                node-short v.built.kind (up_to v i.begun (v.front + at)) refl on.is_at.onward (within-bytes inv on) u stands')
 
       starts-beyond-kept : is_leftmost v.built.kind ≡ true → (m : Occurrence) → picked ≡ Some m → kept_open ≤ m.start
       starts-beyond-kept first m is = search (rules, end-is, most-leftmost, near-picked)
@@ -121,17 +120,7 @@ module _ (stands : ℕ → Node → Type 0) (listed : ℕ → List ℕ) (most : 
               is-kept-open Open is (λ no. absurd (cc)) (settles (λ ended. absurd (let no = sym is ∙ ended in cc)))
           by Failed is =
               is-kept-open Failed is (λ no. absurd (cc)) (settles (λ ended. absurd (let no = sym is ∙ ended in cc)))
-          by Ended is =
-              let none : picked ≡ None = elim open-pick [ inl none ↦ none | inr still ↦ absurd (still.2 is) ] in
-              let e = end-is in let k = inv.kept_within in
-              record {
-                settled = (given-all none, end-is);
-                near = omega arith;
-                onward = omega arith;
-                within = omega arith;
-                after = subst (λ (q : Option Occurrence). IfSome q (λ m. v.front + at ≤ m.start)) (sym none) tt;
-                back = inr (refl, all);
-              }
+          by Ended is = search (rules, all, end-is, given-all)
 
       -- given by the place from which on bytes are kept then
       module _ (kept : ℕ) (is : kept ≡ kept_now) where

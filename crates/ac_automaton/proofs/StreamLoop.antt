@@ -1,5 +1,5 @@
 -- The search of a stream reads on from where it stands: what it picks then.
-use Rattle.std.proofs.Common.{◌≡◌, ℕ, ◌+◌, ◌-◌, ◌<◌, ◌≤◌, Bool, true, false, List, length, length-take, take, drop, max, inl, inr, refl, ap, sym, subst, ◌∙◌, arith, Option, Some, None, IfSome, not}
+use Rattle.std.proofs.Common.{◌≡◌, ℕ, ◌+◌, ◌-◌, ◌<◌, ◌≤◌, Bool, true, false, List, length, length-take, take, drop, max, inl, inr, refl, ap, sym, subst, ◌∙◌, arith, Option, Some, None, IfSome, not, rules}
 use Rattle.std.proofs.lemmas.Bool.{cases_lt, false≢true}
 use Rattle.std.proofs.lemmas.List.{take-append-drop}
 use Rattle.std.proofs.lemmas.Grind.{common_steps}
@@ -58,10 +58,7 @@ module _ (stands : ℕ → Node → Type 0) (listed : ℕ → List ℕ) (most : 
   text-read = record { before = take v.front v.bytes; bytes = drop v.front v.bytes; start = i.begun; end = length v.bytes }
 
   place-is : (k : ℕ) → past (take v.front v.bytes) k ≡ v.front + k
-  place-is k =
-      let is = past-is (take v.front v.bytes) k in
-      let long = length-take v.front v.bytes in
-      let counted = inv.counted in omega arith
+  place-is k = search (rules, past-is)
 
   -- which is the search of the stream
   search-is : search_through stream_scanner.scan text-read ≡ stream_from v.built v.bytes i.begun
@@ -80,45 +77,19 @@ module _ (stands : ℕ → Node → Type 0) (listed : ℕ → List ℕ) (most : 
   picks-are : (at : ℕ) → pick (order_of v.built.kind i.stops)
       (record (search_through stream_scanner.scan text-read) { high = past (take v.front v.bytes) at })
       ≡ pick v.built.kind (up_to (v.front + at))
-  picks-are at =
-      ap (λ (q : Search). pick (order_of v.built.kind i.stops) (record q { high = past (take v.front v.bytes) at })) search-is
-      ∙ ap (λ (k : ℕ). pick (order_of v.built.kind i.stops) (up_to k)) (place-is at)
-      ∙ ap (λ (kind : MatchKind). pick kind (up_to (v.front + at))) same-order
+  picks-are at = grind (arith, common_steps, place-is at)
 
   -- what it has read on is what its scanner has come to
   picked-by : HasPicked stream_scanner.scan i.stops text-read (record { state = i.state; at = i.at }) i.picked
-  picked-by = record {
-    is_at = subst (λ (q : Search). Reaches stands v.built.kind q i.state (past (take v.front v.bytes) i.at)) (sym search-is)
-        (subst (Reaches stands v.built.kind (stream_from v.built v.bytes i.begun) i.state) (sym (place-is i.at))
-        inv.searched.is_at);
-    picks = inv.searched.picks ∙ sym (picks-are i.at);
-  }
+  picked-by = grind (arith, common_steps, place-is i.at, picks-are i.at)
 
   module _ {tape : Taped} (holds : tape.bytes ≡ take i.filled i.buffer) (fresh : tape.place ≡ 0) where
     leads : LeadsTo stream_scanner tape text-read
-    leads =
-        let long = length-take v.front v.bytes in
-        let counted = inv.counted in
-        record {
-          same = sym inv.holds ∙ sym holds;
-          front = omega arith;
-          low = omega arith;
-          whole = λ anchored. absurd (cc);
-        }
+    leads = search rules
 
     -- it may go on
     pub may-search : MayPick stream_scanner i.stops tape (record { state = i.state; at = i.at }) i.picked
-    may-search =
-        let long = ap (length {A = ℕ}) holds in
-        let taken = length-take i.filled i.buffer in
-        record {
-          leftmost = leftmost-by v.built.kind i.stops inv.stops;
-          within = inv.searched.within;
-          inside = omega (arith, long, taken, inv.filled);
-          unread = omega (arith, fresh);
-          small = omega (arith, inv.counted, inv.small);
-          led = (text-read, leads, picked-by);
-        }
+    may-search = search (rules, leads, leftmost-by, picked-by)
 
     module _ {there : Cursor} {counts new_counts : Counts} {new_tape : Taped} {picked : Option Occurrence}
         (on : PicksOn stream_scanner i.stops (record { state = i.state; at = i.at }) tape counts i.picked there new_tape new_counts
@@ -156,12 +127,4 @@ module _ (stands : ℕ → Node → Type 0) (listed : ℕ → List ℕ) (most : 
 
       -- and has then read on
       pub has-searched : HasReadOn stands i v there.state there.at picked
-      has-searched = record {
-        within = on.within;
-        onward = on.onward;
-        is_at = subst (λ (q : Search). Reaches stands v.built.kind q there.state (v.front + there.at)) search-is
-            (subst (Reaches stands v.built.kind (search_through stream_scanner.scan text-read) there.state) (place-is there.at)
-            come.is_at);
-        picks = picks;
-        after = after picked refl;
-      }
+      has-searched = search (rules, after, come, picks, place-is, search-is)

@@ -36,10 +36,7 @@ module _ {F D : Type 0} (told : D → Writing)
   -- so a piece that is passed on is written
   bare-piece : (bytes : List ℕ) (s t : Replacing (ByClosure F) D) (end : Option StreamError)
       → PassesPiece through bytes s end t → WritesPiece told bytes (bare s) end (bare t)
-  bare-piece bytes s t None passes = (
-    ap (λ (c : ByClosure F). c.closure) passes.0,
-    piece-written through bytes s t refl refl passes,
-  )
+  bare-piece bytes s t None passes = search (rules, piece-written)
   bare-piece bytes s t (Some e) passes = (ap (λ (c : ByClosure F). c.closure) passes.0, passes.1)
 
   -- its steps are those of the closure
@@ -100,16 +97,6 @@ module _ {F D : Type 0} (told : D → Writing)
         bare-made : ReplacementSteps (WritesPiece told) (Calls closures) answer_of_result (take fails.place bytes) 0
             (take fails.given (stream_result built bytes)) (bare first) None (bare t)
         bare-made = bare-steps (take fails.place bytes) 0 (take fails.given (stream_result built bytes)) first t None fails.steps
-    fails-with e (bytes, inr fails, small) = (
-      bytes,
-      inr (
-        fails.0,
-        fails.1,
-        fails.2,
-        (
-          t.closure.closure,
-          bare-steps (take fails.1 bytes) 0 (take fails.0 (stream_result built bytes)) first t (Some e) fails.3,
-        ),
-      ),
-      small,
-    )
+    fails-with e (bytes, inr fails, small) =
+        search (rules, bare-steps,
+          bare-steps (take fails.1 bytes) 0 (take fails.0 (stream_result built bytes)) first t (Some e) fails.3)

@@ -28,10 +28,7 @@ module _ {E D : Type 0} (passing : Passing E D) (texts : E → List (List ℕ))
       → PassesPiece passing (replaced_from haystack list place ms) s end t
   text-steps haystack place [] s t end list same steps = steps
   text-steps haystack place (m ∷ ms) s t None list same (inl gap) = absurd (gap.0 refl)
-  text-steps haystack place (m ∷ ms) s t (Some e) list same (inl gap) =
-      piece-begun passing (slice_range haystack place m.start ++ slice_index_or list m.pattern [])
-      (replaced_from haystack list m.end ms) s t e
-      (piece-begun passing (slice_range haystack place m.start) (slice_index_or list m.pattern []) s t e gap.1)
+  text-steps haystack place (m ∷ ms) s t (Some e) list same (inl gap) = search (rules, piece-begun)
   text-steps haystack place (m ∷ ms) s t end list same (inr turn) =
       by (λ further. text-steps haystack m.end ms turn.1 t end list same-after further) turn.0 turn.2.call turn.3
     where
@@ -82,34 +79,23 @@ module _ {E D : Type 0} (passing : Passing E D) (texts : E → List (List ℕ))
 
     pub replaces-by : ReplacesBy passing exchanges ends built reader new_reader s t
         → ReplacesStream built list (passing.told s.destination) (passing.told t.destination) ends reader new_reader
-    replaces-by (bytes, reads, clear, steps, small) = (
-      bytes,
-      reads,
-      piece-written passing (whole-of bytes) s t begins clear
-          (subst (λ (w : List ℕ). PassesPiece passing (replaced w list (stream_result built bytes)) s None t)
-          (take_all (length bytes) bytes (omega arith))
-          (text-steps (take (length bytes) bytes) 0 (stream_result built bytes) s t None list same steps)),
-      small,
-    )
+    replaces-by (bytes, reads, clear, steps, small) =
+        grind (arith, common_steps, take_all (length bytes) bytes (omega arith),
+          text-steps (take (length bytes) bytes) 0 (stream_result built bytes) s t None list same steps)
 
     -- a beginning of the replaced text as far as a place is one of all of it
     begun-text : (bytes : List ℕ) (given place : ℕ) (e : StreamError) → AreApart built bytes given place
         → Steps passing exchanges (take place bytes) 0 (take given (stream_result built bytes)) s (Some e) t
         → (failure : WriteError) × (e ≡ error_of failure) × WritesUntilFailure old new (whole-of bytes) failure
     begun-text bytes given place e apart steps =
-        piece-failed passing (whole-of bytes) s t e begins
-        (subst (λ (w : List ℕ). PassesPiece passing w s (Some e) t) (sym (cut-of built list bytes given place apart))
-        (piece-begun passing (replaced (take place bytes) list (take given (stream_result built bytes)))
-        (replaced_from bytes list place (drop given (stream_result built bytes))) s t e
-        (text-steps (take place bytes) 0 (take given (stream_result built bytes)) s t (Some e) list same steps)))
+        grind (arith, common_steps, cut-of built list bytes given place apart,
+          text-steps (take place bytes) 0 (take given (stream_result built bytes)) s t (Some e) list same steps)
 
     pub fails-by : (e : StreamError) → FailsBy passing exchanges ends built reader new_reader s e t
         → FailsToReplace built list (passing.told s.destination) (passing.told t.destination) ends reader new_reader e
     fails-by e (bytes, inl fails, small) =
-        let written = piece-written passing (replaced (take fails.place bytes) list (take fails.given (stream_result built bytes)))
-        s t begins fails.clear
-        (text-steps (take fails.place bytes) 0 (take fails.given (stream_result built bytes)) s t None list same fails.steps) in
-        (bytes, inl (fails.reads, (fails.given, fails.place, fails.settled, fails.near, written)), small)
+        grind (arith, common_steps,
+          text-steps (take fails.place bytes) 0 (take fails.given (stream_result built bytes)) s t None list same fails.steps)
     fails-by e (bytes, inr (given, place, inl (some, is), steps), small) = search (rules, apart-by built, begun-text)
     fails-by e (bytes, inr (given, place, inr (all, many, is), steps), small) =
         search (rules, all-apart, begun-text, last-inside built)

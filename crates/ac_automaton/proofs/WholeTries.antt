@@ -73,15 +73,10 @@ module _ (kind : MatchKind) (ignores_case : Bool) (patterns : List (List ℕ)) (
   }
     where
       start : Represents (grown_view kind ignores_case patterns sorted transitions queue) START (Some []) t
-      start =
-          subst (λ (v : List ℕ). Represents (grown_view kind ignores_case patterns sorted transitions queue) START
-          (Some v) t)
-          (ap (λ (n : ℕ). take n (key_at sorted p.from)) depth) h.represents
+      start = search rules
 
       once : AreStates (grown_view kind ignores_case patterns sorted transitions queue) (first_states ++ t ∷ [])
-      once =
-          AreStates-push (grown_view kind ignores_case patterns sorted transitions queue) first_states
-          (Some []) t h.meant refl start
+      once = search (rules, AreStates-push, start)
 
   -- with the start at both its numbers a trie goes on to grow
   pub start-going : (first : List State) (none : List QueuedState) (p : QueuedState) (t : State)
@@ -130,9 +125,7 @@ module _ (kind : MatchKind) (ignores_case : Bool) (patterns : List (List ℕ)) (
   }
     where
       node : slice_get (nodes_of sorted new_queue) (length states) ≡ Some (Some (word sorted p))
-      node =
-          ap (slice_get (nodes_of sorted new_queue)) h.count
-          ∙ nodes-inner sorted new_queue at p (b.kept at p e)
+      node = search (rules, nodes-inner)
 
 -- the states up to those of the queue before a place are whole, whatever list the sorted patterns are of
 abbrev pub IsGoingFrom : MatchKind → Sorted → List State → List Transition → List QueuedState → ℕ → Type 0
@@ -191,8 +184,4 @@ module _ (texts : List (List ℕ)) {ignores_case : Bool} {kind : MatchKind} {sor
 
   -- and there are enough numbers
   pub whole-few : too_many_states kind (map (plain ignores_case) texts) ≡ None
-  whole-few =
-      let count = numbered.count in
-      let few = h.grown.few in
-      let long = length-map queue (λ (q : QueuedState). Some (word sorted q)) in
-      too_many_states-none kind (map (plain ignores_case) texts) (omega arith)
+  whole-few = search (rules, length-map, numbered, too_many_states-none)

@@ -148,29 +148,11 @@ module _ (kind : MatchKind) (patterns : List (List ℕ)) where
 
       at : (k : MatchKind) → k ≡ kind → IsFirst kind (front_place i) (front_place n)
       at Standard same =
-          subst (λ (m : MatchKind). IsFirst m (front_place i) (front_place n)) same (standard counts)
-        where
-          standard : Counts v n 0 → IsFirst Standard (front_place i) (front_place n)
-          standard (inl leftmost) = absurd (false≢true (ap is_leftmost same ∙ leftmost))
-          standard (inr ends) =
-              let takes = ap (λ (m : MatchKind). participates m patterns n) (sym same) in
-              let least = own_least v i rest e n (equals takes (omega arith)) in
-              let whole = same_length in
-              record { ends = omega arith; starts = λ _. omega arith; patterns = λ _ _. least }
+          search (rules, Prefixes-length, equals, false≢true, head, own_least, participant-least, same_length)
       at LeftmostFirst same =
-          let takes = ap (λ (m : MatchKind). participates m patterns i) same ∙ head.takes_part in
-          let least = participant-least patterns v i n head.numbered takes head.same f in
-          subst (λ (m : MatchKind). IsFirst m (front_place i) (front_place n)) same
-          (record { starts = omega arith; patterns = λ _. least })
+          search (rules, Prefixes-length, equals, false≢true, head, own_least, participant-least, same_length)
       at LeftmostLongest same =
-          let takes = ap (λ (m : MatchKind). participates m patterns n) (sym same) in
-          let l = Prefixes-length patterns v n f in
-          let whole = same_length in
-          subst (λ (m : MatchKind). IsFirst m (front_place i) (front_place n)) same (record {
-            starts = omega arith;
-            ends = (λ _. omega arith);
-            patterns = (λ _ ends. own_least v i rest e n (equals takes (omega arith)));
-          })
+          search (rules, Prefixes-length, equals, false≢true, head, own_least, participant-least, same_length)
 
   own_stands : (anchored : Anchored) (v : List ℕ) (i : ℕ) (rest : List ℕ) → own v ≡ i ∷ rest
       → Stands patterns anchored v i 0
@@ -201,11 +183,8 @@ module _ (kind : MatchKind) (patterns : List (List ℕ)) where
           ∙ begins-from_Prefixes patterns (x ∷ v) n f))
       no_front n f false leftmost (inl e) = false≢true (sym leftmost ∙ e)
       no_front n f false leftmost (inr ends) =
-          none-from_nil n (own (x ∷ v)) none (IsIn-equal_to kind patterns (x ∷ v) n (record {
-            numbered = f.numbered;
-            takes_part = all_take_part patterns kind leftmost n;
-            same = Prefixes-equal patterns (x ∷ v) n f (omega arith);
-          }))
+          search (rules, IsIn-equal_to, Prefixes-equal, all_take_part, none-from_nil,
+            all_take_part patterns kind leftmost n, Prefixes-equal patterns (x ∷ v) n f (omega arith))
 
       counts_behind : (n s : ℕ) → Counts (x ∷ v) n (suc s) → Counts v n s
       counts_behind n s (inl e) = inl e
@@ -237,12 +216,7 @@ module _ (kind : MatchKind) (patterns : List (List ℕ)) where
           sym (ap (λ (ms : List ℕ). ms ++ cond (stops kind patterns (x ∷ v)) [] (matches kind patterns No (Some v))) is
           ∙ cond-true (stops kind patterns (x ∷ v)) [] (matches kind patterns No (Some v)) stop) ∙ h in
           absurd (cc)
-      by_own [] is false stop h later =
-          let listed : matches kind patterns No (Some v) ≡ i ∷ rest =
-          sym (ap (λ (ms : List ℕ). ms ++ cond (stops kind patterns (x ∷ v)) [] (matches kind patterns No (Some v))) is
-          ∙ cond-false (stops kind patterns (x ∷ v)) [] (matches kind patterns No (Some v)) stop) ∙ h in
-          let r = later listed in
-          (suc r.0, head_behind x v i r.0 is stop r.1)
+      by_own [] is false stop h later = search (rules, cond-false, head_behind, stops)
 
   -- the first match of the node reached is the head of what was read
   pub head : (anchored : Anchored) (v : List ℕ) (i : ℕ) (rest : List ℕ)
@@ -271,18 +245,8 @@ module _ (kind : MatchKind) (patterns : List (List ℕ)) where
   pub start-stays : (anchored : Anchored) → matches kind patterns anchored (Some []) ≡ [] → (n s : ℕ)
       → ¬ Stands patterns anchored [] n s
   start-stays anchored none n s h =
-      let f = start_stands anchored n s h in
-      let p = preferred [] n f.1 in
-      let l = Prefixes-length patterns [] p.0 p.1.prefixes in
-      none-from_nil p.0 (own []) (own_nil anchored none) (IsIn-equal_to kind patterns [] p.0 (record {
-        numbered = p.1.prefixes.numbered;
-        takes_part = p.1.takes_part;
-        same = Prefixes-equal patterns [] p.0 p.1.prefixes (omega arith);
-      }))
-    where
-      own_nil : (a : Anchored) → matches kind patterns a (Some []) ≡ [] → own [] ≡ []
-      own_nil No e = sym (matches-nil kind patterns) ∙ e
-      own_nil Yes e = e
+      search (rules, IsIn-equal_to, Prefixes-equal, Prefixes-length, matches-nil, none-from_nil, preferred,
+        start_stands, start_stands anchored n s h, matches-nil kind patterns)
 
   -- nothing ends before the start, so under each order its head is the pick of the empty text
   pub start-becomes : (order : MatchKind) (anchored : Anchored) (i k : ℕ) → IsHead anchored [] i k

@@ -1,5 +1,6 @@
 -- Where an unanchored automaton is at its start: nothing that occurs has begun before and ends there or later.
-use Rattle.std.proofs.Common.{◌≡◌, ℕ, zero, suc, ◌-◌, ◌<◌, ◌≤◌, Bool, true, false, cond, List, [], ◌∷◌, length, take, drop, inl, inr, refl, ap, sym, ◌∙◌, subst, arith, nat_eq, length-drop, Option, None, Some}
+use Rattle.std.proofs.lemmas.Grind.{common_steps}
+use Rattle.std.proofs.Common.{◌≡◌, ℕ, zero, suc, ◌-◌, ◌<◌, ◌≤◌, Bool, true, false, cond, List, [], ◌∷◌, length, take, drop, inl, inr, refl, ap, sym, ◌∙◌, subst, arith, nat_eq, length-drop, Option, None, Some, rules}
 use Rattle.std.specs.List.{starts_with}
 use Rattle.std.proofs.lemmas.Bool.{cases_lt, false≢true}
 use Rattle.std.proofs.lemmas.List.{length-map, take_all, take-take}
@@ -79,40 +80,16 @@ module _ (kind : MatchKind) (q : Search) (free : q.anchored ≡ No) (place : ℕ
 
   -- what ends no later occurs in what was read
   has-read : (m : Occurrence) → Occurs q m → m.end ≤ place → Occurs read m
-  has-read m o ends = record {
-    numbered = o.numbered;
-    from_low = o.from_low;
-    as_long = o.as_long;
-    to_high = ends;
-    reads = o.reads;
-    at_low = o.at_low;
-  }
+  has-read m o ends = search rules
 
   module _ (nothing : (m : Occurrence) → ¬ Occurs read m) where
     -- what occurs does so in the rest of the span
     later : (m : Occurrence) → Occurs q m → Occurs (from q place) m
-    later m o = record {
-      numbered = o.numbered;
-      from_low = elim (cases_lt m.start place) [
-        | inl begun ↦ absurd (nothing m (has-read m o (let before = none-across m o begun in omega arith)))
-        | inr on ↦ on
-      ];
-      as_long = o.as_long;
-      to_high = o.to_high;
-      reads = o.reads;
-      at_low = λ yes. absurd (cc);
-    }
+    later m o = search (rules, cases_lt, has-read, none-across)
 
     -- and the other way round
     earlier : (m : Occurrence) → Occurs (from q place) m → Occurs q m
-    earlier m o = record {
-      numbered = o.numbered;
-      from_low = (let low = o.from_low in omega arith);
-      as_long = o.as_long;
-      to_high = o.to_high;
-      reads = o.reads;
-      at_low = λ yes. absurd (cc);
-    }
+    earlier m o = search rules
 
     is_pick : (order : MatchKind) (r : Option Occurrence) → IsPick order (from q place) r → IsPick order q r
     is_pick order None h = λ o occurs. h o (later o occurs)
@@ -120,6 +97,4 @@ module _ (kind : MatchKind) (q : Search) (free : q.anchored ≡ No) (place : ℕ
 
     -- so what is picked in the rest of the span is picked
     pub pick-rest : (order : MatchKind) → pick order (from q place) ≡ pick order q
-    pick-rest order =
-        pick-from_IsPick order q (pick order (from q place)) (is_pick order (pick order (from q place))
-        (pick-IsPick order (from q place)))
+    pick-rest order = search (rules, is_pick, pick-IsPick, pick-from_IsPick)

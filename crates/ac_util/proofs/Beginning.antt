@@ -120,8 +120,7 @@ beginning_by : (q : Search) (h n : ℕ) (r : Option Occurrence) → h ≤ q.high
 beginning_by q h zero r l = refl
 beginning_by q h (suc n) None l = refl
 beginning_by q h (suc n) (Some m) l =
-    beginning_at q h n m (ends_by h m) l refl
-    (beginning_by (from q m.end) h n (next_match Standard (from q m.end) (Some m.end)) l)
+    search (rules, beginning_at, beginning_by (from q m.end) h n (next_match Standard (from q m.end) (Some m.end)) l)
 
 -- the walk after a match, without the count
 after : (q : Search) (m : Occurrence)

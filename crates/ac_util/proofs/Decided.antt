@@ -51,20 +51,7 @@ module _ (built : Built) (leftmost : is_leftmost built.kind ≡ true) (bytes : L
     -- it would begin with the pattern of the match
     fronts : starts_with nat_eq (plain built.ignores_case pattern) (plain built.ignores_case (pattern_of built.patterns m.pattern)) ≡ true
     fronts =
-        let o = occurs-then in
-        let as_long = o.as_long in
-        let longer = open'.longer in
-        let start = at-start in
-        let len = length (pattern_of built.patterns m.pattern) in
-        let slice : slice_range (bytes ++ rest) m.start m.end ≡ take len (slice_range (bytes ++ rest) place (place + length pattern)) =
-        ap (λ (k : ℕ). take k (drop m.start (bytes ++ rest))) (let k : m.end - m.start ≡ len = omega arith in k)
-        ∙ ap (λ (k : ℕ). take len (drop k (bytes ++ rest))) (sym start)
-        ∙ sym (take-take len (place + length pattern - place) (drop place (bytes ++ rest)) (omega arith)) in
-        let part : plain built.ignores_case (pattern_of built.patterns m.pattern) ≡ take len (plain built.ignores_case pattern) =
-        o.reads ∙ ap (plain built.ignores_case) slice
-        ∙ sym (take-map (plain_byte built.ignores_case) len (slice_range (bytes ++ rest) place (place + length pattern)))
-        ∙ ap (take len) (sym comes-there.reads) in
-        ap (starts_with nat_eq (plain built.ignores_case pattern)) part ∙ starts_with-take len (plain built.ignores_case pattern)
+        grind (arith, common_steps, at-start, comes-there, occurs-then, rest, starts_with-take, take-map, take-take)
 
     closed-by : (kind : MatchKind) → built.kind ≡ kind → ⊥
     closed-by Standard is = let no = sym leftmost ∙ ap is_leftmost is in absurd (cc)
@@ -146,9 +133,7 @@ module _ (built : Built) (leftmost : is_leftmost built.kind ≡ true) (bytes : L
       first : (more : List ℕ) → (next_match built.kind (there built leftmost bytes more low) last ≡ Some m)
           × (walk_after built.kind (from (there built leftmost bytes more low) m.end) (Some m.end)
           ≡ ms ++ walk-on more begun next)
-      first more =
-          walk-first built leftmost bytes more some (there built leftmost bytes more low) last m
-          (ms ++ walk-on more begun next) (walks more)
+      first more = search (rules, there, walk-first)
 
   -- so the stream is settled by them up to a place after their end, where none is open and no other starts before it
   pub settled-at : (ms : List Occurrence) (begun place : ℕ) (next : Option ℕ)
@@ -173,10 +158,7 @@ module _ (built : Built) (leftmost : is_leftmost built.kind ≡ true) (bytes : L
       rest = walk_after built.kind (here built leftmost bytes [] begun) next
 
       whole : stream_result built bytes ≡ ms ++ rest
-      whole =
-          subst (λ (w : List ℕ). stream_result built w
-          ≡ ms ++ walk_after built.kind (record (search_in built (whole_input w)) { low = begun }) next)
-          (append-nil bytes) (walks [])
+      whole = search (rules, append-nil, append-nil bytes)
 
       taken : take (length ms) (stream_result built bytes) ≡ ms
       taken = ap (take (length ms)) whole ∙ take-append_seam ms rest

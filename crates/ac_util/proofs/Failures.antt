@@ -43,9 +43,7 @@ module _ (kind : MatchKind) (patterns : List (List ℕ)) where
   -- the node reached is no longer than what was read
   pub depth-reached : (w : List ℕ) → depth (free w) ≤ length w
   depth-reached [] = rw (reached-nil kind patterns No) (omega arith)
-  depth-reached (x ∷ w) =
-      rw (reached-cons kind patterns x w)
-      (shorter x w (is_node kind patterns (x ∷ w)) (stops kind patterns (x ∷ w)) (depth-reached w))
+  depth-reached (x ∷ w) = search (rules, reached-cons, shorter, stops, depth-reached w)
 
   dead_or_reached : (w : List ℕ) (s : Bool) → depth (cond s None (free w)) ≤ length w
   dead_or_reached w true = omega arith

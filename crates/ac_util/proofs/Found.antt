@@ -37,9 +37,7 @@ module _ (kind : MatchKind) (patterns : List (List ℕ)) where
 
   found_free : (w : List ℕ) → found (reached kind patterns No w) ≡ found (Some w)
   found_free [] = ap found (reached-nil kind patterns No)
-  found_free (x ∷ w) =
-      ap found (reached-cons kind patterns x w)
-      ∙ found_by x w (is_node kind patterns (x ∷ w)) (stops kind patterns (x ∷ w)) refl refl (found_free w)
+  found_free (x ∷ w) = search (rules, found_by, reached-cons, stops, found_free w)
 
   found_held : (w : List ℕ) (t : Bool) → is_node kind patterns w ≡ t
       → matches kind patterns Yes (cond t (Some w) None) ≡ own w
@@ -92,12 +90,9 @@ module _ (kind : MatchKind) (patterns : List (List ℕ)) where
       → IsIn n (own u)
   matches-whole [] n h l = rw matches-nil at h
   matches-whole (x ∷ u) n h l =
-      grind (
-        arith,
-        common_steps,
+      search (rules, IsIn-append_cases, matches-cons, matches-fits, stops,
         IsIn-append_cases n (own (x ∷ u)) (cond (stops kind patterns (x ∷ u)) [] (found (Some u))) (rw (matches-cons x u) at h),
-        matches-fits,
-      )
+        stops kind patterns (x ∷ u), matches-cons x u)
 
   -- and those after the ones that equal the string are shorter than it
   pub matches-shorter : (u beyond : List ℕ) → found (Some u) ≡ own u ++ beyond → (n : ℕ) → IsIn n beyond

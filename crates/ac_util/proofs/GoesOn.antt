@@ -1,4 +1,5 @@
 -- A stream that goes on: the walk over what was there before stays, and other matches follow.
+use Rattle.std.proofs.lemmas.Grind.{common_steps}
 use Rattle.std.proofs.Common.{◌≡◌, ℕ, zero, suc, ◌+◌, ◌-◌, ◌<◌, ◌≤◌, Bool, true, false, List, [], ◌∷◌, ◌++◌, length, length-append, get_or, refl, ap, sym, ◌∙◌, arith, Option, None, Some, AllPairs, filter, rules}
 use Rattle.std.proofs.lemmas.Bool.{cases_lt, cond-true, cond-false, lt-leb, leb-false}
 use Rattle.ac_util.specs.Prelude.{whole_input, Built, continued, from, IsAfter, MatchKind, next_match, Occurrence, pick, Search, search_in, Standard, stream_result, unless_repeated, walk, walk_after}
@@ -16,10 +17,7 @@ none-backward kind q back = by (pick kind q) refl
   where
     by : (r : Option Occurrence) → pick kind q ≡ r → pick kind q ≡ None
     by None e = e
-    by (Some m) e =
-        let o = pick-Occurs kind q m e in
-        let a = o.from_low in let b = o.as_long in let c = o.to_high in
-        absurd (omega arith)
+    by (Some m) e = grind (arith, common_steps, pick-Occurs kind q m e)
 
 module _ (kind : MatchKind) (more : List ℕ) where
   pick-longer : (q : Search) → q.high ≤ length q.haystack → pick kind (longer q more) ≡ pick kind q
@@ -72,12 +70,7 @@ ends-first h (m ∷ ms) pairs = by (ends_by h m) refl (ends-first h ms later)
 
     by : (t : Bool) → ends_by h m ≡ t → (rest : List Occurrence) × (ms ≡ filter (ends_by h) ms ++ rest)
         → (rest : List Occurrence) × (m ∷ ms ≡ filter (ends_by h) (m ∷ ms) ++ rest)
-    by true e i = (
-      i.0,
-      ap (λ (xs : List Occurrence). m ∷ xs) i.1
-          ∙ ap (λ (xs : List Occurrence). xs ++ i.0)
-          (sym (cond-true (ends_by h m) (m ∷ filter (ends_by h) ms) (filter (ends_by h) ms) e)),
-    )
+    by true e i = search (rules, cond-true, ends_by)
     by false e i = (m ∷ ms, ap (λ (xs : List Occurrence). xs ++ m ∷ ms) (sym (none-late h (m ∷ ms) (late e))))
 
 -- under Standard a stream that goes on keeps the matches that it had

@@ -29,15 +29,7 @@ too_long-here number (p ∷ ps) (suc i) within long = too_long-here number ps i 
 all_short : (number : ℕ) (ps : List (List ℕ)) → too_long_from number ps ≡ None
     → All (λ p. length p ≤ GREATEST) ps
 all_short number [] none = All-nil (λ p. length p ≤ GREATEST)
-all_short number (p ∷ ps) none = by (nat_lt GREATEST (length p)) refl none (all_short (number + 1) ps)
-  where
-    by : (t : Bool) → nat_lt GREATEST (length p) ≡ t
-        → cond t (Some (PatternTooLong number (length p))) (too_long_from (number + 1) ps) ≡ None
-        → (too_long_from (number + 1) ps ≡ None → All (λ q. length q ≤ GREATEST) ps)
-        → All (λ q. length q ≤ GREATEST) (p ∷ ps)
-    by true is none later = absurd (cc)
-    by false is none later =
-        All-cons (λ q. length q ≤ GREATEST) p ps (ltb-false GREATEST (length p) is) (later none)
+all_short number (p ∷ ps) none = search (rules, All-cons, ltb-false, all_short (number + 1) ps)
 
 -- a list that isn't refused is within the limits
 pub limits-from_refusal : (ps : List (List ℕ)) → limit_refusal ps ≡ None → IsWithinLimits ps

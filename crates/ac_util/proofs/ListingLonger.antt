@@ -118,16 +118,9 @@ module _ (q : Search) (order : q.low ≤ q.high) (inside : q.high ≤ length q.h
   -- the matches found at the end of the span are the occurrences that end there
   has_ending : (m : Occurrence) → Occurs q m → m.end ≡ q.high → IsIn m at_end
   has_ending m o e =
-      let t = text_length q order inside in
-      let l = pattern_length q order inside m.pattern in
-      let a = o.as_long in let b = o.from_low in
-      let ends : EndsWith (plain_patterns q) q.anchored (text q) m.pattern (m.start - q.low) =
-      record { stands = Stands-from_Occurs q order inside m o; whole = omega arith } in
-      subst (λ (x : Occurrence). IsIn x at_end)
-      (same_occurrence (ending q m.pattern) m refl (omega arith) (sym e))
-      (IsIn-map (ending q) m.pattern (found_at_end Standard q)
-      (subst (λ (ns : List ℕ). IsIn m.pattern ns) (sym text_is)
-      (in_found (plain_patterns q) q.anchored (text q) m.pattern (m.start - q.low) ends)))
+      search (rules, IsIn-map, Stands-from_Occurs, in_found, pattern_length, same_occurrence, text_is, text_length,
+        text_length q order, pattern_length q order, Stands-from_Occurs q order,
+        same_occurrence (ending q m.pattern) m refl (omega arith) (sym e))
 
   occurs_ending : (n : ℕ) → IsIn n (found_at_end Standard q) → Occurs q (ending q n)
   occurs_ending n h =

@@ -1,5 +1,5 @@
 -- Where a leftmost automaton is alive: its node begins no later than anything that occurs in what was read.
-use Rattle.std.proofs.Common.{◌≡◌, ◌≢◌, ℕ, zero, suc, ◌+◌, ◌-◌, ◌≤◌, Bool, true, false, cond, List, [], ◌∷◌, length, take, drop, inl, inr, refl, ap, sym, ◌∙◌, arith, None, Some, ◌&&◌, find, option_map, if◌then◌else◌}
+use Rattle.std.proofs.Common.{◌≡◌, ◌≢◌, ℕ, zero, suc, ◌+◌, ◌-◌, ◌≤◌, Bool, true, false, cond, List, [], ◌∷◌, length, take, drop, inl, inr, refl, ap, sym, ◌∙◌, arith, None, Some, ◌&&◌, find, option_map, if◌then◌else◌, rules}
 use Rattle.std.proofs.lemmas.Bool.{and_parts, false≢true}
 use Rattle.std.proofs.lemmas.Grind.{common_steps}
 use Rattle.ac_util.specs.Prelude.{begins_with_pattern, is_leftmost, is_node, least_start, longest_len, MatchKind, No, Occurrence, pick, plain_patterns, reached, Search, suffixes, text}
@@ -44,11 +44,7 @@ module _ (patterns : List (List ℕ)) where
           → begins_with_pattern patterns (drop place (b ∷ w)) ≡ true
           → ((k : ℕ) → k ≤ length w → begins_with_pattern patterns (drop k w) ≡ true → BeginsBy w k)
           → BeginsBy (b ∷ w) place
-      by true e place inside h on = record {
-        start = 0;
-        least = ap (λ (t : Bool). if t then Some 0 else option_map suc (least_start patterns w)) e;
-        early = omega arith;
-      }
+      by true e place inside h on = search rules
       by false e zero inside h on = absurd (false≢true (sym e ∙ h))
       by false e (suc place) inside h on =
           let later = on place (omega arith) h in
@@ -80,11 +76,7 @@ module _ (kind : MatchKind) (patterns : List (List ℕ)) where
       rest : (t : Bool) → is_leftmost kind && begins_with_pattern patterns (x ∷ w) ≡ t
           → cond t None (reached kind patterns No w) ≡ None → (reached kind patterns No w ≡ None → BeginsIn w)
           → BeginsIn (x ∷ w)
-      rest true e gone on = record {
-        place = 0;
-        within = omega arith;
-        begins = (and_parts (is_leftmost kind) (begins_with_pattern patterns (x ∷ w)) e).1;
-      }
+      rest true e gone on = search (rules, and_parts)
       rest false e gone on =
           let later = on gone in
           record { place = suc later.place; within = (let l = later.within in omega arith); begins = later.begins }

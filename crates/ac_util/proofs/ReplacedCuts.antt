@@ -24,13 +24,8 @@ replaced-cut haystack texts many place end [] [] order starts within = grind (ar
 replaced-cut haystack texts many place end [] (n ∷ others) order starts within =
     grind (arith, common_steps, part-join haystack place end n.start order starts, drop-take place (end - place) haystack)
 replaced-cut haystack texts many place end (m ∷ ms) others order starts within =
-    grind (
-      arith,
-      common_steps,
-      take-append-drop end haystack,
-      slice_range-append,
-      replaced-cut haystack texts many m.end end ms others order.4 starts within,
-    )
+    grind (arith, common_steps, take-append-drop end haystack,
+      replaced-cut haystack texts many m.end end ms others order.4 starts within)
 
 -- the first of matches in order are in order
 order-front : (bytes many place : ℕ) (ms others : List Occurrence) → AreInOrder bytes many place (ms ++ others)
@@ -151,9 +146,4 @@ module _ (built : Built) where
     pub holds-back : (bytes : List ℕ) (given place : ℕ) → built.kind ≡ Standard → IsSettledBy built.kind built bytes given place
         → replaced (take place bytes) list (take given (stream_result built bytes))
         ≡ without_last (kept_back_len built bytes) (whole-of bytes)
-    holds-back bytes given place standard h =
-        let all = subst (λ (kind : MatchKind). IsSettledBy kind built bytes given place) standard h in
-        ap (λ (k : ℕ). replaced (take k bytes) list (take given (stream_result built bytes))) all.1
-        ∙ ap (replaced (take (settled built bytes) bytes) list)
-        (take_all given (stream_result built bytes) (let many = all.0 in omega arith))
-        ∙ settled-text bytes
+    holds-back bytes given place standard h = search (rules, settled-text, take_all)

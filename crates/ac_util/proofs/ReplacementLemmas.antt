@@ -42,9 +42,7 @@ module _ {S R E : Type 0} (appends : List ℕ → S → Option E → S → Type 
     -- after a turn it goes on
     after-turn : {place : ℕ} {m : Occurrence} {s t : S} {r : R} (on last : Type 0) (fails : E → Type 0)
         → Turn appends calls asks haystack place m s r t → MatchAnswer (asks r) on last fails → on
-    after-turn {m = m} {t = t} {r = r} on last fails turn later =
-        subst (λ (answer : Answer E). MatchAnswer answer on last fails)
-        (called m (slice_range haystack m.start m.end) turn.at_match t r turn.call).0 later
+    after-turn {m = m} {t = t} {r = r} on last fails turn later = search rules
 
     -- the steps leave what was there and then the haystack with its matches exchanged
     pub steps-exchange : (place : ℕ) (ms : List Occurrence) (s t : S)

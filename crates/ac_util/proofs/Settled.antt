@@ -104,11 +104,7 @@ module _ (built : Built) (leftmost : is_leftmost built.kind ≡ true) (bytes mor
       -- of a slice that ends after the bytes, as many as there are of these
       shown : (start end : ℕ) → start < length bytes → length bytes < end
           → take (length bytes - start) (slice_range (bytes ++ more) start end) ≡ drop start bytes
-      shown start end inside beyond =
-          take-take (length bytes - start) (end - start) (drop start (bytes ++ more)) (omega arith)
-          ∙ ap (take (length bytes - start)) (drop-append-le start bytes more (omega arith))
-          ∙ ap (λ (k : ℕ). take k (drop start bytes ++ more)) (sym (length-drop start bytes))
-          ∙ take-append_seam (drop start bytes) more
+      shown start end inside beyond = grind (arith, common_steps, drop-append-le, take-append_seam, take-take)
 
   -- the pick stays where no place is open up to its start
   pick-stays : (low : ℕ) (m : Occurrence) → pick built.kind (here low) ≡ Some m → m.start < m.end
@@ -178,14 +174,7 @@ module _ (built : Built) (leftmost : is_leftmost built.kind ≡ true) (bytes mor
         by : (r : Option Occurrence) → next_match built.kind q last ≡ r
             → (next_match built.kind q last ≡ Some m) × (walk_after built.kind (from q m.end) (Some m.end) ≡ ms)
         by None e = absurd (let none = walk_after-None built.kind q last e in cc)
-        by (Some n) e =
-            let whole : n ∷ walk_after built.kind (from q n.end) (Some n.end) ≡ m ∷ ms =
-            sym (walk_after-Some built.kind q last n e) ∙ is in
-            let same : n ≡ m = cc in
-            let rest : walk_after built.kind (from q n.end) (Some n.end) ≡ ms = cc in (
-              e ∙ ap (λ (k : Occurrence). Some k) same,
-              subst (λ (k : Occurrence). walk_after built.kind (from q k.end) (Some k.end) ≡ ms) same rest,
-            )
+        by (Some n) e = grind (arith, common_steps, walk_after-Some built.kind q last n e)
 
     -- a walk after a match starts no match before its end
     walk-beyond : (q : Search) → All (λ (x : Occurrence). q.low ≤ x.start) (walk_after built.kind q (Some q.low))

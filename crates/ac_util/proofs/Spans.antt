@@ -120,10 +120,7 @@ module _ (q : Search) (order : q.low ≤ q.high) (inside : q.high ≤ length q.h
   }
     where
       inward_outward : (o : Occurrence) → Occurs q o → outward q.low (inward q.low o) ≡ o
-      inward_outward o x =
-          let a = x.as_long in
-          let b = x.from_low in
-          same_occurrence (outward q.low (inward q.low o)) o refl (omega arith) (omega arith)
+      inward_outward o x = search (rules, same_occurrence)
 
   -- counted from the low end and back, an occurrence is the same
   back_out : (kind : MatchKind) (r : Option Occurrence) → IsPick kind q r

@@ -1,5 +1,5 @@
 -- The stride is the least power of two that is not below the number of classes.
-use Rattle.std.proofs.Common.{◌≡◌, ℕ, zero, suc, ◌+◌, ◌<◌, ◌≤◌, ◌^◌, Bool, true, false, cond, List, inl, inr, refl, ap, Option, Some, arith, nat_le, find, unwrap_or}
+use Rattle.std.proofs.Common.{◌≡◌, ℕ, zero, suc, ◌+◌, ◌<◌, ◌≤◌, ◌^◌, Bool, true, false, cond, List, inl, inr, refl, ap, Option, Some, arith, nat_le, find, unwrap_or, rules}
 use Rattle.std.specs.List.{range_with_len}
 use Rattle.std.proofs.lemmas.Bool.{cases_lt, leb-true, leb-false}
 use Rattle.std.proofs.lemmas.Grind.{common_steps}
@@ -23,9 +23,7 @@ first_or_later p low high later false order is first = grind (arith, common_step
 found-first : (p : ℕ → Bool) (n low high : ℕ) → low + n ≡ high
     → IsFirstFrom p low high (unwrap_or (find p (range_with_len low n)) high)
 found-first p zero low high e = grind (arith, common_steps)
-found-first p (suc n) low high e =
-    first_or_later p low high (find p (range_with_len (low + 1) n)) (p low) (omega arith) refl
-    (found-first p n (low + 1) high (omega arith))
+found-first p (suc n) low high e = search (rules, first_or_later, found-first p n (low + 1) high (omega arith))
 
 module _ (classes : List ℕ) where
   -- whether the power of two is not below the number of classes

@@ -131,29 +131,17 @@ lies-between built input m texts u lies = record {
         (nil_from_length p (sym same_length ∙ ap length e))
 
     inside : m.start + length (plain ignores_case p) ≤ length (plain ignores_case bytes)
-    inside = let l = length-map bytes (plain_byte ignores_case) in
-        let long = lies.as_long in let high = lies.in_haystack in
-        let same = same_length in omega arith
+    inside = search (rules, bytes, ignores_case, length-map, same_length)
 
     stands : take (length (plain ignores_case p)) (drop m.start (plain ignores_case bytes)) ≡ plain ignores_case p
-    stands =
-        ap (take (length (plain ignores_case p))) (drop-map (plain_byte ignores_case) m.start bytes)
-        ∙ take-map (plain_byte ignores_case) (length (plain ignores_case p)) (drop m.start bytes)
-        ∙ ap (λ (n : ℕ). plain ignores_case (take n (drop m.start bytes)))
-        (let long = lies.as_long in let same = same_length in omega arith)
-        ∙ sym lies.same
+    stands = search (rules, bytes, drop-map, ignores_case, p, same_length, take-map)
 
 -- where all patterns are texts that aren't empty, so do a find's answer, each match of a walk and each item of the
 -- listing
 module _ (built : Built) (input : InputView) (texts : AreTexts built.patterns) (u : IsUtf8 input.haystack)
     (inside : input.end ≤ length input.haystack) where
   pub find_result-between : IfSome (find_result built input) (IsBetweenCharacters input.haystack)
-  find_result-between = by (find_result built input) (find_result-IfSome built input inside)
-    where
-      by : (r : Option Occurrence) → IfSome r (LiesIn built input)
-          → IfSome r (IsBetweenCharacters input.haystack)
-      by None lies = tt
-      by (Some m) lies = lies-between built input m texts u lies
+  find_result-between = grind (arith, common_steps, find_result-IfSome built, lies-between built)
 
   pub walk_result-between : All (IsBetweenCharacters input.haystack) (walk_result built input)
   walk_result-between = search (rules, All-weaker, lies-between, walk_result-lie)

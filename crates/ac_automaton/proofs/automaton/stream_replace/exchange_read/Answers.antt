@@ -1,4 +1,5 @@
-use Rattle.std.proofs.Common.{◌≡◌, ◌∙◌, ◌+◌, ℕ, List, Some, None, Ok, Err, take, sym, ap, subst, slice_range}
+use Rattle.std.proofs.lemmas.Grind.{common_steps}
+use Rattle.std.proofs.Common.{◌≡◌, ◌∙◌, ◌+◌, ℕ, List, Some, None, Ok, Err, take, sym, ap, subst, slice_range, rules, arith}
 use Rattle.ac_automaton.specs.Prelude.{GivesMatch, HasGivenSettled, IsSettledIn, matches_so_far, PassesPiece, Steps, Streaming}
 use Rattle.ac_automaton.proofs.Places.{refused-by}
 use Rattle.ac_automaton.proofs.StreamExchanging.{exchange-fails, gap-fails, last-fails, last-flushed, replaced-match}
@@ -9,12 +10,7 @@ use Rattle.ac_automaton.proofs.automaton.stream_replace.exchange_read.Goals as g
 -- the bytes after the last match
 module _ (g : Over) (c : After-bytes g) where
   after-last : c.bytes.result.now ≡ slice_range c.loop-found.finder.bytes c.loop-found.finder.kept c.next_read.new.self.kept
-  after-last =
-      let v = c.loop-found.finder in
-      let all : HasGivenSettled v c.next_read.new.self = c.in_default.ensures in
-      c.bytes.ensures ∙ ap (λ (w : Streaming). slice_range w.bytes c.kept-from.result c.kept.result) all.same
-      ∙ ap (λ (k : ℕ). slice_range v.bytes k c.kept.result) c.kept-from.ensures.kept
-      ∙ ap (λ (k : ℕ). slice_range v.bytes v.kept k) c.kept.ensures.kept
+  after-last = search rules
 
 pub returns-in_default-clause-exchanged : goal.returns-in_default-clause-exchanged
 returns-in_default-clause-exchanged g c =
@@ -42,13 +38,7 @@ returns-in_err-pass-clause-exchanged g c =
 -- what stands before a match that is given next
 before-match : (g : Over) (c : After-pass-in-loop-found g) → c.bytes-in-loop-found.result.now
     ≡ slice_range c.loop-found.finder.bytes c.loop-found.finder.kept c.in-Some.found.start
-before-match g c =
-    let v = c.loop-found.finder in
-    let gives : GivesMatch v c.in-Some.found c.next_read.new.self = c.in-Some.ensures in
-    c.bytes-in-loop-found.ensures
-    ∙ ap (λ (w : Streaming). slice_range w.bytes c.kept-from.result c.start.result) gives.same
-    ∙ ap (λ (k : ℕ). slice_range v.bytes k c.start.result) c.kept-from.ensures.kept
-    ∙ ap (λ (k : ℕ). slice_range v.bytes v.kept k) c.start.ensures
+before-match g c = search rules
 
 pub returns-in_err-pass-2-clause-exchanged : goal.returns-in_err-pass-2-clause-exchanged
 returns-in_err-pass-2-clause-exchanged g c =
@@ -88,13 +78,7 @@ module _ (g : Over) (c : After-exchange g) where
 
   slice : c.bytes-in-loop-found-2.result.now
       ≡ slice_range c.loop-found.finder.bytes c.in-Some.found.start c.in-Some.found.end
-  slice =
-      let v = c.loop-found.finder in
-      let gives : GivesMatch v c.in-Some.found c.next_read.new.self = c.in-Some.ensures in
-      c.bytes-in-loop-found-2.ensures
-      ∙ ap (λ (w : Streaming). slice_range w.bytes c.start-in-loop-found.result c.end.result) gives.same
-      ∙ ap (λ (k : ℕ). slice_range v.bytes k c.end.result) c.start-in-loop-found.ensures
-      ∙ ap (λ (k : ℕ). slice_range v.bytes c.in-Some.found.start k) c.end.ensures
+  slice = search rules
 
 pub loop-found-preserved : goal.loop-found-preserved
 loop-found-preserved g c =

@@ -1,4 +1,5 @@
-use Rattle.std.proofs.Common.{Bool, subst, MatchBool, rules}
+use Rattle.std.proofs.lemmas.Grind.{common_steps}
+use Rattle.std.proofs.Common.{Bool, subst, MatchBool, rules, arith}
 use Rattle.ac_automaton.specs.Streams.{FillsMore, MeetsEnd}
 use Rattle.ac_automaton.proofs.Places.{match-by, refused-by}
 use Rattle.ac_automaton.proofs.StreamExchanging.{begins, ends-there, fails-at-last, fails-exchanging, fails-reading, fills, goes-on, replaces}
@@ -20,12 +21,7 @@ returns-in_err-fill g c =
 -- more was read
 filled : (g : Over) (c : After-exchange_read g) → FillsMore c.loop-finder.finder c.fill.new.self
     (g.R.Source.told c.loop-finder.reader) (g.R.Source.told c.fill.new.reader)
-filled g c =
-    let told = g.R.Source.told in
-    subst (λ (more : Bool). MatchBool more
-    (FillsMore c.loop-finder.finder c.fill.new.self (told c.loop-finder.reader) (told c.fill.new.reader))
-    (MeetsEnd g.R.Source.empty_means_end c.loop-finder.finder c.fill.new.self (told c.loop-finder.reader)
-    (told c.fill.new.reader))) c.if-branch.true c.in_ok-fill.ensures
+filled g c = search rules
 
 pub loop-finder-preserved : goal.loop-finder-preserved
 loop-finder-preserved g c =

@@ -1,3 +1,4 @@
+use Rattle.std.proofs.lemmas.Grind.{common_steps}
 use Rattle.std.proofs.Common.{ℕ, false, length-set, take, get_or, inl, inr, ap, sym, ◌∙◌, arith, rules}
 use Rattle.ac_util.proofs.Marks.{filter-fails, filter-passes, first_ones, marked_more_than_noted, noted_all, take_noted}
 use Rattle.ac_util.proofs.prefilter.FirstBytes.of.Goals as goal
@@ -19,23 +20,20 @@ loop-byte-preserved c = search (rules, else-marks-plain_byte, filter-fails, filt
 -- one is marked
 pub returns-in-1 : goal.returns-in-1
 returns-in-1 c =
-    sym (first_ones c.loop-byte.bytes c.loop-byte.invariant.whole).0
-    ∙ noted_all c.args.ignores_case c.args.marks.now c.loop-byte.bytes c.loop-byte.count 1 c.loop-byte.byte (omega arith)
-    c.in-1.is c.loop-byte.invariant.noted
+    grind (arith, common_steps, first_ones c.loop-byte.bytes c.loop-byte.invariant.whole,
+      noted_all c.args.ignores_case c.args.marks.now c.loop-byte.bytes c.loop-byte.count 1 c.loop-byte.byte (omega arith) c.in-1.is c.loop-byte.invariant.noted)
 
 -- two are
 pub returns-in-2 : goal.returns-in-2
 returns-in-2 c =
-    sym (first_ones c.loop-byte.bytes c.loop-byte.invariant.whole).1
-    ∙ noted_all c.args.ignores_case c.args.marks.now c.loop-byte.bytes c.loop-byte.count 2 c.loop-byte.byte (omega arith)
-    c.in-2.is c.loop-byte.invariant.noted
+    grind (arith, common_steps, first_ones c.loop-byte.bytes c.loop-byte.invariant.whole,
+      noted_all c.args.ignores_case c.args.marks.now c.loop-byte.bytes c.loop-byte.count 2 c.loop-byte.byte (omega arith) c.in-2.is c.loop-byte.invariant.noted)
 
 -- three are
 pub returns-in-3 : goal.returns-in-3
 returns-in-3 c =
-    sym (first_ones c.loop-byte.bytes c.loop-byte.invariant.whole).2
-    ∙ noted_all c.args.ignores_case c.args.marks.now c.loop-byte.bytes c.loop-byte.count 3 c.loop-byte.byte (omega arith)
-    c.in-3.is c.loop-byte.invariant.noted
+    grind (arith, common_steps, first_ones c.loop-byte.bytes c.loop-byte.invariant.whole,
+      noted_all c.args.ignores_case c.args.marks.now c.loop-byte.bytes c.loop-byte.count 3 c.loop-byte.byte (omega arith) c.in-3.is c.loop-byte.invariant.noted)
 
 -- none is
 pub returns-in_default : goal.returns-in_default

@@ -1,4 +1,5 @@
-use Rattle.std.proofs.Common.{rules}
+use Rattle.std.proofs.lemmas.Grind.{common_steps}
+use Rattle.std.proofs.Common.{rules, arith}
 use Rattle.ac_util.specs.Prefilters.{skip_of}
 use Rattle.ac_util.proofs.Skips.{promised, says-nothing}
 use Rattle.ac_util.proofs.prefilter.Prefilter.find_in.Goals as goal
@@ -9,6 +10,4 @@ returns-then-span-clause-says g c = search (rules, says-nothing)
 
 -- what is said is promised
 pub returns-clause-promises : goal.returns-clause-promises
-returns-clause-promises g c =
-    λ ignores_case patterns ok. promised (skip_of c.args.self.now) ignores_case patterns c.args.haystack.now c.args.span.start
-    c.args.span.end c.candidate_in.result c.candidate_in.ensures ok
+returns-clause-promises g c = search (rules, promised)

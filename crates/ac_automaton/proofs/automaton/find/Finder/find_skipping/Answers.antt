@@ -1,4 +1,5 @@
-use Rattle.std.proofs.Common.{◌≡◌, refl, subst, Option, IfSome, arith}
+use Rattle.std.proofs.lemmas.Grind.{common_steps}
+use Rattle.std.proofs.Common.{◌≡◌, refl, subst, Option, IfSome, arith, rules}
 use Rattle.std.specs.Borrow.{Bor}
 use Rattle.ac_automaton.specs.Util.{No, Prefilter, skip_of}
 use Rattle.ac_automaton.specs.Prelude.{FindsIn, Finding, MayBegin, scan_of, Skips}
@@ -27,23 +28,11 @@ returns-in_default-clause-finds g c =
 module _ (g : Over) (c : Then-span-2 g) where
   begins : MayBegin (record { scan = scan_of (g.A.Automaton.seen c.self.inside.automaton.now) c.self.inside.anchored; span = c.args.span; front = 0 })
       c.self.inside.stops c.args.tape.now (record { state = c.self.inside.start; at = c.args.span.start })
-  begins = record {
-    starts = c.self.invariant.starts;
-    there = refl;
-    memory = refl;
-    small = omega arith;
-    leftmost = c.self.invariant.leftmost;
-    before_end = c.if-span-2.true;
-    inside = c.requires.end_within;
-    unread = c.requires.unread;
-  }
+  begins = search rules
 
   skips : (c.self.inside.anchored ≡ No) × Skips (g.A.Automaton.seen c.self.inside.automaton.now).wants_prefilter
       (g.A.Automaton.seen c.self.inside.automaton.now).built (skip_of c.in-Some.prefilter.now)
-  skips =
-      subst (λ (o : Option (Bor (Prefilter g.row.A-Memory.Denot))). IfSome o (λ p. (c.self.inside.anchored ≡ No)
-      × Skips (g.A.Automaton.seen c.self.inside.automaton.now).wants_prefilter
-      (g.A.Automaton.seen c.self.inside.automaton.now).built (skip_of p.now))) c.in-Some.is c.self.invariant.skips
+  skips = search rules
 
 pub skip_ahead-requires-clause-may : goal.skip_ahead-requires-clause-may
 skip_ahead-requires-clause-may g c = may-advance (begins g (goal.at.skip_ahead-requires-clause-may g c).Then-span-2)

@@ -1,4 +1,4 @@
-use Rattle.std.proofs.Common.{◌≡◌, ap, sym, subst, ◌∙◌, List, ℕ, Option, Some, arith}
+use Rattle.std.proofs.Common.{◌≡◌, ap, sym, subst, ◌∙◌, List, ℕ, Option, Some, arith, rules}
 use Rattle.std.proofs.lemmas.Grind.{common_steps}
 use Rattle.ac_automaton.specs.Prelude.{in_memory, IsListing, ListsNext, Overlapping, overlapping_by, Reached, Scan, scan_of, work_of}
 use Rattle.ac_automaton.proofs.Overlapping.{lists-next, lists-past_end, listing-goes_on}
@@ -18,9 +18,7 @@ module _ (g : Over) (c : After-self g) where
   -- it goes on from where it has come to
   way : {reached : Option Reached} → c.self.inside.reached ≡ reached
       → IsListing s (in_memory c.self.inside.tape.bytes c.self.inside.scanner.span) reached (work_of c.self.inside.tape c.self.inside.looks)
-  way is =
-      subst (λ (r : Option Reached). IsListing s (in_memory c.self.inside.tape.bytes c.self.inside.scanner.span) r (work_of c.self.inside.tape c.self.inside.looks)) is
-      c.self.invariant.listing
+  way is = search rules
 
 pub returns-in_err-reached : goal.returns-in_err-reached
 returns-in_err-reached g c = grind (arith, common_steps, lists-past_end (s g ((goal.at.returns-in_err-reached g c).After-self)) (c.self.inside).tape.bytes (c.self.inside).scanner.span (work_of (c.self.inside).tape (c.self.inside).looks) (way g ((goal.at.returns-in_err-reached g c).After-self) c.in_err-reached.was), way g ((goal.at.returns-in_err-reached g c).After-self) c.in_err-reached.was)

@@ -1,4 +1,5 @@
-use Rattle.std.proofs.Common.{arith}
+use Rattle.std.proofs.lemmas.Grind.{common_steps}
+use Rattle.std.proofs.Common.{arith, rules}
 use Rattle.ac_automaton.proofs.FindSkipping.{finds-needle, finds-passed, may-advance, may-find-passed, skip-some}
 use Rattle.ac_automaton.proofs.ReadAhead.{along-passed, comes-advances, comes-on, comes-start, may-go-on}
 use Rattle.ac_automaton.proofs.automaton.scan.Scanner.find_needle.Goals as goal
@@ -17,13 +18,8 @@ read_rest-requires g c = may-go-on (may-advance c.requires.begins) c.loop-cursor
 
 pub is_match_or_dead-requires : goal.is_match_or_dead-requires
 is_match_or_dead-requires g c =
-    let may = may-go-on (may-advance c.requires.begins) c.loop-cursor.invariant in
-    record {
-      state = (
-        c.args.self.now.anchored,
-        (_, (c.read_rest.ensures.passes may.alive.0 may.alive.1 may.alive.2).is_at.there),
-      );
-    }
+    grind (arith, common_steps, may-go-on (may-advance c.requires.begins) c.loop-cursor.invariant,
+      may-advance c.requires.begins)
 
 pub loop-cursor-preserved : goal.loop-cursor-preserved
 loop-cursor-preserved g c =

@@ -1,3 +1,4 @@
+use Rattle.std.proofs.lemmas.Grind.{common_steps}
 use Rattle.std.proofs.Common.{◌≡◌, ◌+◌, ℕ, arith, Some, slice_get, rules}
 use Rattle.std.proofs.lemmas.Bool.{false≢true}
 use Rattle.ac_automaton.proofs.Heads.{HeadFits, found-due, found-none, found-not_due, head-fits, nil-from_not}
@@ -31,10 +32,7 @@ pub returns-then-not-is_due : goal.returns-then-not-is_due
 returns-then-not-is_due g c = search (rules, found-not_due)
 
 pub overflow_sub-end-2 : goal.overflow_sub-end-2
-overflow_sub-end-2 g c =
-    let short =
-    (fits g (goal.at.overflow_sub-end-2 g c).After-is_match _ c.match_pattern-pattern.ensures).short in
-    omega (arith, c.pattern_len-len.ensures)
+overflow_sub-end-2 g c = search (rules, fits)
 
 pub overflow_add-end : goal.overflow_add-end
 overflow_add-end g c = omega (arith, c.requires.small)

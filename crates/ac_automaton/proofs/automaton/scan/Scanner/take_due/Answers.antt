@@ -1,4 +1,5 @@
-use Rattle.std.proofs.Common.{◌≡◌, ◌-◌, ℕ, true, ap, sym, subst, ◌∙◌, arith, Some}
+use Rattle.std.proofs.lemmas.Grind.{common_steps}
+use Rattle.std.proofs.Common.{◌≡◌, ◌-◌, ℕ, true, ap, sym, subst, ◌∙◌, arith, Some, rules}
 use Rattle.ac_util.specs.Occurrence.{Occurrence, occurrence}
 use Rattle.ac_automaton.specs.Prelude.{in_memory, is_due, Scan, scan_of}
 use Rattle.ac_automaton.specs.Overlaps.{HasGivenItem}
@@ -15,10 +16,7 @@ module _ (g : Over) (c : Else-not-is_due g) where
       scan_of (g.A.Automaton.seen c.args.self.now.automaton.now) c.args.self.now.anchored
 
   counted : counts s.built s.anchored (c.args.reached.now.at - c.args.self.now.span.start) c.in_ok-pattern.pattern ≡ true
-  counted =
-      ap (λ (n : ℕ). is_due s.anchored n (c.args.reached.now.at - c.args.self.now.span.start))
-      (sym c.pattern_len-len.ensures)
-      ∙ sym c.is_due.ensures ∙ c.if-not-is_due.false
+  counted = search rules
 
 pub overflow_sub-span : goal.overflow_sub-span
 overflow_sub-span g c =

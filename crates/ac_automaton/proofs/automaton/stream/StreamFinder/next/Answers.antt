@@ -11,11 +11,7 @@ use Rattle.ac_automaton.proofs.automaton.stream.StreamFinder.next.Goals as goal
 
 -- at first nothing was read
 pub loop-found-init : goal.loop-found-init
-loop-found-init g c =
-    let small : length (c.args.self.now.bytes ++ []) ≤ usize_max =
-    subst (λ (w : List ℕ). length w ≤ usize_max) (sym (append-nil c.args.self.now.bytes))
-    (subst (λ (v : Streaming). length v.bytes ≤ usize_max) c.self.view_is c.self.invariant.small) in
-    search (rules, Consumes-nil, append-nil, small)
+loop-found-init g c = grind (arith, common_steps, append-nil c.args.self.now.bytes)
 
 -- the end was met before
 pub returns-in-Ended : goal.returns-in-Ended

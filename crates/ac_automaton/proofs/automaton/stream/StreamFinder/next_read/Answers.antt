@@ -1,4 +1,5 @@
-use Rattle.std.proofs.Common.{◌≡◌, ◌≢◌, ◌⊎◌, ◌↔◌, ◌∙◌, ◌+◌, ◌-◌, Bool, true, false, List, ℕ, None, inl, inr, refl, length, sym, ap, arith}
+use Rattle.std.proofs.lemmas.Grind.{common_steps}
+use Rattle.std.proofs.Common.{◌≡◌, ◌≢◌, ◌⊎◌, ◌↔◌, ◌∙◌, ◌+◌, ◌-◌, Bool, true, false, List, ℕ, None, inl, inr, refl, length, sym, ap, arith, rules}
 use Rattle.std.proofs.lemmas.Bool.{false≢true}
 use Rattle.ac_automaton.specs.Util.{No, Node, Taped}
 use Rattle.ac_automaton.specs.Prelude.{Ended, Failed, HasReadOn, Inside, IsAnswered, Streaming}
@@ -60,10 +61,7 @@ module _ (g : Over) (c : After-pick_on-picked g) where
   answered = c.pick_on-picked.ensures.answered _ on-now.is_at.there
 
   unfailed : c.self.inside.phase ≢ Failed
-  unfailed = elim c.match-matches.branch [
-    | in-Failed w ↦ absurd (false≢true (sym c.if-matches.false ∙ w.matches-is))
-    | in_default w ↦ w.in_default.not-Failed
-  ]
+  unfailed = search (rules, false≢true)
 
   module _ (dead : Bool) (says : (u : Node) → stands c.pick_on-picked.new.cursor.state u → (dead ≡ true) ↔ (u ≡ None)) where
     -- why a match that is picked is settled, and why none is, by the node
@@ -78,11 +76,7 @@ module _ (g : Over) (c : After-pick_on-picked g) where
         → (c.pick_on-picked.result ≡ None)
         ⊎ ((c.self.inside.stops ≡ false) × (node_now ≢ None) × (c.self.inside.phase ≢ Ended))
     open-still (inl none) = inl none
-    open-still (inr still) = inr (
-      still.0,
-      (λ gone. false≢true (sym still.1 ∙ (says _ on-now.is_at.there).1 gone)),
-      still.2,
-    )
+    open-still (inr still) = search (rules, false≢true, on-now)
 
 pub is_dead-dead-requires : goal.is_dead-dead-requires
 is_dead-dead-requires g c = record { state = (No, (_, (on-now g (goal.at.is_dead-dead-requires g c).After-pick_on-picked).is_at.there)) }

@@ -1,4 +1,4 @@
-use Rattle.std.proofs.Common.{sym, ◌∙◌, arith}
+use Rattle.std.proofs.Common.{sym, ◌∙◌, arith, rules}
 use Rattle.std.proofs.lemmas.Grind.{common_steps}
 use Rattle.ac_automaton.proofs.WalkLoop.{repeated}
 use Rattle.ac_automaton.proofs.automaton.walk.TapedFinder.next_left.Goals as goal
@@ -9,11 +9,6 @@ overflow_add-further g c = grind (arith, common_steps, repeated c.args.last c.fi
 
 -- the second find goes on with the tape of the first
 pub find-requires : goal.find-requires
-find-requires g c = record {
-  may = record {
-    whole = grind (arith, common_steps);
-    inside = grind (arith, common_steps);
-    legal = grind (arith, common_steps, repeated c.args.last c.find-first.ensures.found c.requires.beyond (sym c.repeats.ensures ∙ c.if-not-repeats.false));
-    unread = grind (arith, common_steps, repeated c.args.last c.find-first.ensures.found c.requires.beyond (sym c.repeats.ensures ∙ c.if-not-repeats.false));
-  };
-}
+find-requires g c =
+    search (rules, repeated,
+      repeated c.args.last c.find-first.ensures.found c.requires.beyond (sym c.repeats.ensures ∙ c.if-not-repeats.false))

@@ -1,4 +1,5 @@
-use Rattle.std.proofs.Common.{arith, sym, ◌∙◌}
+use Rattle.std.proofs.lemmas.Grind.{common_steps}
+use Rattle.std.proofs.Common.{arith, sym, ◌∙◌, rules}
 use Rattle.ac_util.specs.Node.{Node}
 use Rattle.ac_automaton.specs.Tries.{Represents}
 use Rattle.ac_automaton.proofs.Follows.{represented}
@@ -32,11 +33,4 @@ loop-at-smaller c =
     omega (arith, (known (goal.at.loop-at-smaller c).After-index-states-at).links.back)
 
 pub loop-at-preserved : goal.loop-at-preserved
-loop-at-preserved c = record {
-  counted = λ g u h.
-      rw (c.as_usize-at-in-loop-at.ensures.value, c.patterns_len-count.ensures.value)
-      (counting-on g c.args.states.now u c.loop-at.at c.index-states-at.result c.index-states-at.is
-      c.loop-at.count
-      (c.loop-at.invariant.counted g u h));
-  fits = omega (arith, (known (goal.at.loop-at-preserved c).After-index-states-at).links.back);
-}
+loop-at-preserved c = search (rules, counting-on, known)

@@ -1,3 +1,4 @@
+use Rattle.std.proofs.lemmas.Grind.{common_steps}
 use Rattle.std.proofs.Common.{◌≡◌, ◌+◌, arith, sym, subst, ap, ◌∙◌, List, ℕ, get_or, length, rules}
 use Rattle.ac_util.specs.Node.{Node}
 use Rattle.ac_automaton.specs.Tries.{Represents}
@@ -27,9 +28,7 @@ pub patterns_len-len-requires : goal.patterns_len-len-requires
 patterns_len-len-requires c = record { ordered = (known c).patterns_ordered }
 
 pub bounds-order-state : goal.bounds-order-state
-bounds-order-state c =
-    let within = (known (goal.at.bounds-order-state c).After-index-states-as_usize).within in
-    omega (arith, within, ap (length {A = ℕ}) c.requires.state.2)
+bounds-order-state c = search (rules, known)
 
 pub returns-then-left-len : goal.returns-then-left-len
 returns-then-left-len c = λ g u same h.

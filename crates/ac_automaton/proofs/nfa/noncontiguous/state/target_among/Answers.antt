@@ -1,5 +1,5 @@
 -- The search begins no nearer than the byte can be, and goes down past greater bytes alone.
-use Rattle.std.proofs.Common.{◌≡◌, ◌<◌, length, get_or, arith, ap, ◌∙◌, inl, inr, Some}
+use Rattle.std.proofs.Common.{◌≡◌, ◌<◌, length, get_or, arith, ap, ◌∙◌, inl, inr, Some, rules}
 use Rattle.std.proofs.lemmas.Bool.{cases_lt}
 use Rattle.std.proofs.lemmas.Grind.{common_steps}
 use Rattle.ac_automaton.specs.Prelude.{transition_bytes}
@@ -23,25 +23,10 @@ loop-at-init c =
     }
 
 pub loop-at-preserved : goal.loop-at-preserved
-loop-at-preserved c =
-    let own = c.args.own.now in
-    let here = byte-read own c.loop-at.at c.index-own-at.result c.loop-at.invariant.within c.index-own-at.is in
-    let read = ap (λ t. t.byte) c.index-own-at.is in
-    record {
-      within = omega (arith, c.loop-at.invariant.within);
-      greater = λ k after inside. elim (cases_lt c.loop-at.at k) [
-        | inl beyond ↦ c.loop-at.invariant.greater k beyond inside
-        | inr upto ↦ (let same : c.loop-at.at ≡ k = omega (arith, after, upto) in
-            omega (arith, here, read, c.if-own-at.true, ap (λ n. get_or (transition_bytes own) n 0) same))
-      ];
-    }
+loop-at-preserved c = search (rules, byte-read, cases_lt)
 
 pub returns-then-next-byte : goal.returns-then-next-byte
-returns-then-next-byte c = (
-  c.loop-at.at,
-  read-target c.args.own.now c.loop-at.at c.index-own-at-2.result c.loop-at.invariant.within c.index-own-at-2.is
-      ∙ ap (λ b. Some (record { byte = b; target = c.index-own-at-2.result.target })) c.if-next-byte.true,
-)
+returns-then-next-byte c = search (rules, read-target)
 
 pub returns-else-next-byte : goal.returns-else-next-byte
 returns-else-next-byte c =
