@@ -110,13 +110,8 @@ module _ (trie : Trie) (start_kind : StartKind) (classes : List ℕ) (exponent :
         → (first_row_in nodes numbers v + width (row_input filling nodes) ≤ first_row_in nodes numbers w)
         ⊎ (first_row_in nodes numbers w + width (row_input filling nodes) ≤ first_row_in nodes numbers v)
     ordered-apart s t v w first later order =
-        grind (
-          arith,
-          common_steps,
-          slice_get_within nodes t (Some w) later.named,
-          place-row filling nodes size s v first,
-          place-row filling nodes size t w later,
-        )
+        grind (arith, common_steps, slice_get_within nodes t (Some w) later.named,
+          place-row filling nodes size s v first, place-row filling nodes size t w later)
 
     -- so do those of any two strings
     strings-apart : (s t : ℕ) (v w : List ℕ) → HasRow filling nodes size s v → HasRow filling nodes size t w → v ≢ w
@@ -182,10 +177,7 @@ module _ (trie : Trie) (start_kind : StartKind) (classes : List ℕ) (exponent :
 
           filled-row : (w : List ℕ) → (s : ℕ) × HasRow filling nodes size s w → (anchored : Anchored)
               → start_refusal start_kind anchored ≡ None → IsFilled (row_input filling nodes) anchored (Some w) entries
-          filled-row w state anchored supported =
-              filled.filled state.0 (Some w) (slice_get_within nodes state.0 (Some w) state.1.named)
-              (λ same. elim state.1.place [ inl start ↦ omega arith | inr inner ↦ omega arith ])
-              state.1.named anchored supported
+          filled-row w state anchored supported = search (rules, slice_get_within)
 
           row-of : (w : List ℕ) → IsNode trie.built.kind (plain_of trie.built) (Some w) → (anchored : Anchored)
               → (row : ℕ) × (first_row_in nodes numbers w + anchored_shift start_kind anchored (2 ^ exponent) ≡ row * 2 ^ exponent)

@@ -1,5 +1,5 @@
 -- Looking for a class in the class words of a sparse state.
-use Rattle.std.proofs.Common.{refl, ◌≡◌, ◌≢◌, ℕ, zero, suc, ◌+◌, ◌*◌, ◌/◌, ◌<◌, ◌≤◌, Bool, true, false, cond, List, [], ◌∷◌, length, map, drop, ap, sym, subst, ◌∙◌, arith, All, slice_index_or, ◌==◌}
+use Rattle.std.proofs.Common.{refl, ◌≡◌, ◌≢◌, ℕ, zero, suc, ◌+◌, ◌*◌, ◌/◌, ◌<◌, ◌≤◌, Bool, true, false, cond, List, [], ◌∷◌, length, map, drop, ap, sym, subst, ◌∙◌, arith, All, slice_index_or, ◌==◌, rules}
 use Rattle.std.proofs.Math.Seq.{drop-cons, drop-nil}
 use Rattle.std.proofs.lemmas.List.{drop_all, drop-drop, drop-map, get_or-drop, get_or-map, length-drop, length-map}
 use Rattle.std.proofs.lemmas.Grind.{common_steps}
@@ -75,16 +75,7 @@ module _ (class : ℕ) where
       → word_of a b c d ∷ class_words (edge_classes (drop 4 es)) ≡ word ∷ words
       → Picks (targets_of es) (first_of a b c d class) (target_by FAIL es class) (target_by FAIL (drop 4 es) class)
       → ReadsWord es word words
-  reads es a b c d word words small are picks = record {
-    a = a;
-    b = b;
-    c = c;
-    d = d;
-    small = small;
-    word_is = sym (ap (λ (ns : List ℕ). slice_index_or ns 0 0) are);
-    after = sym (ap (λ (ns : List ℕ). drop 1 ns) are);
-    picks = picks;
-  }
+  reads es a b c d word words small are picks = search rules
 
   pub says : (es : List Edge) (word : ℕ) (words : List ℕ) → All (λ e. e.class < 256) es
       → class_words (edge_classes es) ≡ word ∷ words → ReadsWord es word words
@@ -165,33 +156,18 @@ module _ (es : List Edge) (front : List ℕ) (is : front ≡ class_words (edge_c
     -- the place of a class in the class word at an index picks from the targets there
     picks-at : Picks (targets_of (drop (4 * index) es)) place (target_by FAIL (drop (4 * index) es) class)
         (target_by FAIL (drop 4 (drop (4 * index) es)) class)
-    picks-at =
-        let t = says-at class es index small (subst (λ (ns : List ℕ). index < length ns) is within) in
-        let place_is = seen t.a t.b t.c t.d t.small.0 t.small.1 t.small.2 t.small.3
-        (ap (λ (ns : List ℕ). slice_index_or ns index 0) is ∙ t.word_is) in
-        subst (λ (n : ℕ). Picks (targets_of (drop (4 * index) es)) n (target_by FAIL (drop (4 * index) es) class)
-        (target_by FAIL (drop 4 (drop (4 * index) es)) class)) (sym place_is) t.picks
+    picks-at = search (rules, says-at, says-at class es)
 
     -- a place below 4 is that of a transition
     pub place-within : place < 4 → 4 * index + place < length (targets_of es)
-    place-within low =
-        let inside = picks-at.within low in
-        let left = ap (λ (ns : List ℕ). length ns) (drop-map (λ e. e.target) (4 * index) es) in
-        let dropped = length-drop (4 * index) (targets_of es) in
-        omega (arith, inside, left, dropped)
+    place-within low = grind (arith, common_steps, drop-map, length-drop, picks-at)
 
     -- there the class leads
     pub place-found : place < 4
         → target_by FAIL (drop (4 * index) es) class ≡ slice_index_or (targets_of es) (4 * index + place) 0
-    place-found low =
-        picks-at.found low
-        ∙ ap (λ (ns : List ℕ). slice_index_or ns place 0) (sym (drop-map (λ e. e.target) (4 * index) es))
-        ∙ get_or-drop (4 * index) (targets_of es) place 0
+    place-found low = grind (arith, common_steps, drop-map, get_or-drop, picks-at)
 
     -- or it leads where the transitions after these lead it
     pub place-missed : 4 ≤ place
         → target_by FAIL (drop (4 * index) es) class ≡ target_by FAIL (drop (4 * (index + 1)) es) class
-    place-missed not =
-        picks-at.missed not
-        ∙ ap (λ (rest : List Edge). target_by FAIL rest class)
-        (drop-drop 4 (4 * index) es ∙ ap (λ (n : ℕ). drop n es) (let more : 4 * index + 4 ≡ 4 * (index + 1) = omega arith in more))
+    place-missed not = grind (arith, common_steps, picks-at.missed not, drop-drop 4 (4 * index) es)

@@ -1,5 +1,6 @@
 -- Where a state's transitions lead by the class of a byte.
-use Rattle.std.proofs.Common.{◌≡◌, ◌≢◌, inl, inr, ℕ, ◌<◌, Bool, true, false, List, [], ◌∷◌, ◌++◌, map, refl, ap, sym, ◌∙◌, Some, Contains, ◌==◌}
+use Rattle.std.proofs.lemmas.Grind.{common_steps}
+use Rattle.std.proofs.Common.{◌≡◌, ◌≢◌, inl, inr, ℕ, ◌<◌, Bool, true, false, List, [], ◌∷◌, ◌++◌, map, refl, ap, sym, ◌∙◌, Some, Contains, ◌==◌, rules, arith}
 use Rattle.std.proofs.lemmas.Bool.{false≢true, eqb-true, eq-eqb, cond-true, cond-false}
 use Rattle.ac_automaton.specs.Util.{class_at, plain_byte, SetsApart}
 use Rattle.ac_util.proofs.ClassLemmas.{stands-from_node}
@@ -24,15 +25,9 @@ module _ (classes : List ℕ) (to : ℕ → ℕ) (default_target : ℕ) where
       go : (t : Bool) → (class_at classes x == class_at classes b) ≡ t → IsIn b (x ∷ bytes)
           → (IsIn b bytes → target_by default_target (map edge bytes) (class_at classes b) ≡ to b)
           → target_by default_target (map edge (x ∷ bytes)) (class_at classes b) ≡ to b
-      go true same has later =
-          let is : x ≡ b = alone x (inl refl) (eqb-true (class_at classes x) (class_at classes b) same) in
-          cond-true (class_at classes x == class_at classes b) (to x) (target_by default_target (map edge bytes) (class_at classes b)) same
-          ∙ ap to is
-      go false other (inl is) later =
-          absurd (false≢true (sym other ∙ eq-eqb (class_at classes x) (class_at classes b) (ap (class_at classes) is)))
-      go false other (inr has) later =
-          cond-false (class_at classes x == class_at classes b) (to x) (target_by default_target (map edge bytes) (class_at classes b)) other
-          ∙ later has
+      go true same has later = search (rules, alone, cond-false, cond-true, eq-eqb, eqb-true, false≢true)
+      go false other (inl is) later = search (rules, alone, cond-false, cond-true, eq-eqb, eqb-true, false≢true)
+      go false other (inr has) later = search (rules, alone, cond-false, cond-true, eq-eqb, eqb-true, false≢true)
 
   -- by any other class they lead where there is no transition
   unfound : (bytes : List ℕ) (b : ℕ) → ((a : ℕ) → IsIn a bytes → class_at classes a ≢ class_at classes b)
@@ -46,9 +41,7 @@ module _ (classes : List ℕ) (to : ℕ → ℕ) (default_target : ℕ) where
           → target_by default_target (map edge bytes) (class_at classes b) ≡ default_target
           → target_by default_target (map edge (x ∷ bytes)) (class_at classes b) ≡ default_target
       go true same others = absurd (none x (inl refl) (eqb-true (class_at classes x) (class_at classes b) same))
-      go false other others =
-          cond-false (class_at classes x == class_at classes b) (to x) (target_by default_target (map edge bytes) (class_at classes b)) other
-          ∙ others
+      go false other others = search (rules, cond-false)
 
 module _ (p : ContiguousView) (at : Places) (apart : SetsApart p.built.ignores_case p.built.patterns p.classes) (default_target : ℕ)
     (w : List ℕ) (b : ℕ) (byte : b < 256) where

@@ -62,10 +62,7 @@ module _ (p : ContiguousView) (anchored : Anchored) (b : ℕ) (u : Node) (old : 
     where
       short : (v : Node) → IsContiguousState p anchored s v → depth v + 0 < 18446744073709551616
       short None stands = omega arith
-      short (Some w) stands =
-          let few = stands.is_contiguous.short in
-          let long = node-length p.built.kind p.built.ignores_case p.built.patterns w stands.node in
-          omega arith
+      short (Some w) stands = search (rules, node-length)
 
   module _ (now new : Counts) (s : ℕ) (o : WalkGoesOnward p anchored b u old now s) (more : new ≡ more_looks 1 now) where
     -- with one look more the walk has counted all

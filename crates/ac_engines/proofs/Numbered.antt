@@ -1,4 +1,5 @@
 -- Where the rows of the states of a trie stand.
+use Rattle.std.proofs.lemmas.Grind.{common_steps}
 use Rattle.std.proofs.Common.{◌≡◌, ◌≢◌, inl, inr, ℕ, zero, suc, ◌<◌, ◌≤◌, List, [], length, slice_index_or, arith, Some, slice_get, rules}
 use Rattle.ac_util.specs.Node.{Node}
 use Rattle.ac_util.proofs.NodeCount.{inner_nodes-only}
@@ -47,11 +48,6 @@ module _ (f : Filling) (nodes : List Node) (size : ℕ) where
   -- the rows of a string begin at the number of its state
   pub place-row : (s : ℕ) (w : List ℕ) → HasRow f nodes size s w
       → first_row_in nodes f.numbers w ≡ slice_index_or f.numbers s 0
-  place-row s w h = elim h.place [
-    | inl start ↦
-        let named = rw start at h.named in
-        let first = h.may.are_nodes.start in
-        let empty : w ≡ [] = cc in
-        rw (start, empty) (place-start f.trie nodes h.may.are_nodes f.numbers h.may.laid.count)
-    | inr inner ↦ place-inner f.trie nodes h.may.are_nodes f.numbers s w h.may.laid.count inner h.named
-  ]
+  place-row s w h =
+      grind (arith, common_steps, place-start f.trie nodes h.may.are_nodes f.numbers h.may.laid.count,
+        place-inner f.trie nodes h.may.are_nodes f.numbers s w h.may.laid.count)

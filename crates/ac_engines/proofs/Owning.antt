@@ -52,13 +52,7 @@ module _ (f : Filling) (nodes : List Node) (size s : ℕ) (w : List ℕ) (h : Ha
   module _ (index byte next : ℕ) (own : IsOwn f.trie nodes w index byte next) where
     -- an own transition leads to a state that has rows too
     pub next-row : HasRow f nodes size next (w ++ plain_byte f.trie.built.ignores_case byte ∷ [])
-    next-row =
-        grind (
-          arith,
-          common_steps,
-          after-starts f.trie nodes h.may.are_nodes next (w ++ plain_byte f.trie.built.ignores_case byte ∷ []) (longer w (plain_byte f.trie.built.ignores_case byte))
-              own.leads,
-        )
+    next-row = search (rules, after-starts, longer)
 
     -- with one own transition more set, one more of the bytes leads on in the row
     pub own-more : (anchored : Anchored) (v : ℕ) (old now : List ℕ) → length now ≡ size

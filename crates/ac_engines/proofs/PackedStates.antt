@@ -103,9 +103,7 @@ module _ (f : Packer) (nodes : List Node) (ready : AreReady f nodes) where
       by false false is js =
           places-beside s t false earlier (placed-at s u reached named false is) (placed-at t v (omega arith) other false js) e
       by true false is js =
-          let ends = (placed-at s u reached named true is).front_within refl in
-          let begins = (placed-at t v (omega arith) other false js).begins in
-          omega arith
+          search (rules, placed-at, placed-at s u reached named true is, placed-at t v (omega arith) other false js)
       by false true is js =
           let begins = (placed-at s u reached named false is).begins in
           let ends = (placed-at t v (omega arith) other true js).front_within refl in
@@ -230,13 +228,7 @@ module _ (f : Packer) (nodes : List Node) (ready : AreReady f nodes) where
               (λ none. has-some w is (sym (format_words-matches anchored w) ∙ none))
               ∙ format_words-matches anchored w;
         }
-    lists-matches anchored w node late false front_if back_if is =
-        let back = back_if refl in
-        record {
-          matched = (λ below. absurd (omega arith), λ some. absurd (some (has-none w is)));
-          lists = listed-none (packed f nodes ready words)
-              (number_at (places f nodes ready words) anchored (Some w)) (omega arith) ∙ sym (has-none w is);
-        }
+    lists-matches anchored w node late false front_if back_if is = search (rules, has-none, listed-none)
 
     -- what stands at the number of a string
     record StandsWithin (anchored : Anchored) (w : List ℕ) : Type 0 where

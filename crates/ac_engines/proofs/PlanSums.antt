@@ -113,14 +113,5 @@ module _ (q : PackPlan) (nodes : List Node) where
   pub placed-more : (s : ℕ) (numbers : List ℕ) (front back : ℕ) → ArePlaced s numbers front back → (t : Bool) (words : ℕ)
       → TakesSize q nodes s t words → (new_front new_back : ℕ) → new_front ≡ front + cond t words 0
       → new_back ≡ back + cond t 0 words → ArePlaced (s + 1) (numbers ++ cond t front back ∷ []) new_front new_back
-  placed-more s numbers front back are t words step new_front new_back fronts backs = record {
-    count = omega (arith, length-append numbers (cond t front back ∷ []), are.count);
-    each = places-more numbers s (cond t front back) are.count are.each (on_side t (sym step.place));
-    front_is = omega (arith, are.front_is, step.front, fronts);
-    back_is = omega (arith, are.back_is, step.back, backs);
-  }
-    where
-      on_side : (b : Bool) → cond b (size_of q nodes None + before q nodes true s) (front_end q nodes + before q nodes false s)
-          ≡ place_at q nodes s → cond b front back ≡ place_at q nodes s
-      on_side true is = are.front_is ∙ is
-      on_side false is = are.back_is ∙ is
+  placed-more s numbers front back are t words step new_front new_back fronts backs =
+      grind (arith, common_steps, places-more)

@@ -1,4 +1,5 @@
 -- Pushing the words of one state after another.
+use Rattle.std.proofs.lemmas.Grind.{common_steps}
 use Rattle.std.proofs.Common.{◌≡◌, ◌≢◌, ℕ, ◌+◌, ◌<◌, ◌≤◌, Bool, true, false, List, ◌++◌, drop, length, inl, inr, refl, ap, sym, subst, ◌∙◌, arith, Some, slice_get, rules}
 use Rattle.std.proofs.lemmas.Bool.{cases_lt}
 use Rattle.std.proofs.lemmas.List.{append_assoc, append-nil, length-append}
@@ -67,13 +68,7 @@ module _ (f : Packer) (nodes : List Node) where
         where
           earlier : (t : ℕ) (v : Node) → t < s + 1 → slice_get nodes t ≡ Some v → has_matches f.plan nodes v ≡ front
               → t < s
-          earlier t v less is input = elim (cases_lt t s) [
-            | inl below ↦ below
-            | inr more ↦
-                let at : t ≡ s = omega arith in
-                let same : u ≡ v = get-same nodes s u v named (subst (λ n. slice_get nodes n ≡ Some v) at is) in
-                absurd (other (ap (has_matches f.plan nodes) same ∙ input))
-          ]
+          earlier t v less is input = search (rules, cases_lt, get-same)
 
       -- one that is asked for is pushed
       pub pushed-next : (new : List ℕ) → has_matches f.plan nodes u ≡ front → new ≡ words ++ state_words f nodes s u

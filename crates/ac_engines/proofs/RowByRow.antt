@@ -39,17 +39,12 @@ module _ (f : Filling) (nodes : List Node) (size s : ℕ) (w : List ℕ) (h : Ha
 
       last : (t : ℕ) (u : Node) → t ≡ s → slice_get nodes t ≡ Some u → (anchored : Anchored)
           → IsFilled p anchored (Some w) new → IsFilled p anchored u new
-      last t u same named anchored filled =
-          let at = rw same at named in
-          let own = h.named in
-          let node : u ≡ Some w = cc in
-          rw node filled
+      last t u same named anchored filled = search rules
 
       kept : (t : ℕ) (u : Node) → t < s → t ≢ 3 → slice_get nodes t ≡ Some u → (anchored : Anchored)
           → IsFilled p anchored u old → IsFilled p anchored u new
       kept t None earlier other named anchored filled =
-          filled-beside p (narrow f nodes size h.may) anchored None (slice_index_or f.numbers s 0) (width p) old new
-          (inl (let first = row-anchored_shift f nodes size h.may s h.place there in omega arith)) beside filled
+          search (rules, filled-beside, narrow, row-anchored_shift, there)
       kept t (Some v) earlier other named anchored filled =
           let row = has-row f nodes size h.may t v named other in
           let place = place-row f nodes size t v row in
@@ -66,17 +61,7 @@ module _ (f : Filling) (nodes : List Node) (size s : ℕ) (w : List ℕ) (h : Ha
 
       blank-still : (t k : ℕ) → s + 1 ≤ t → t ≢ 3 → t < length nodes → slice_index_or f.numbers t 0 ≤ k
           → k < slice_index_or f.numbers t 0 + width p → slice_index_or new k 0 ≡ 0
-      blank-still t k later other within from to =
-          let count = h.may.laid.count in
-          let inner : 4 ≤ t = elim (cases_lt 3 t) [
-            | inl after ↦ omega arith
-            | inr first ↦ absurd (other (elim h.place [ inl start ↦ omega arith | inr after ↦ omega arith ]))
-          ] in
-          beside k (elim (rows-apart f nodes size h.may s t h.place inner (omega arith) (omega arith)) [
-            | inl before ↦ inr (omega arith)
-            | inr after ↦ inl (omega arith)
-          ])
-          ∙ up.blank t k (omega arith) other within from to
+      blank-still t k later other within from to = search (rules, cases_lt, rows-apart)
 
   -- the row of a state may be filled once those before it are
   pub may-row : (anchored : Anchored) (old : List ℕ) → start_refusal f.start_kind anchored ≡ None
@@ -115,9 +100,7 @@ module _ (f : Filling) (nodes : List Node) (size s : ℕ) (w : List ℕ) (h : Ha
     where
       each : (anchored : Anchored) → start_refusal f.start_kind anchored ≡ None → IsFilled p anchored (Some w) new
       each Yes supported = second.filled
-      each No supported =
-          filled-beside p (narrow f nodes size h.may) No (Some w) (row_at p Yes (Some w)) f.stride between new
-          (inl (let rows = both-rows both in omega arith)) second.beside first.filled
+      each No supported = search (rules, both-rows, filled-beside, narrow)
 
 -- a DFA for one start has rows for its searches alone
 pub only-unanchored : (kind : StartKind) → kind ≡ Unanchored → (other : Anchored) → start_refusal kind other ≡ None

@@ -75,9 +75,7 @@ module _ (f : Filling) (nodes : List Node) (size : ℕ) (may : MayFill f nodes s
   classes-apart zero s before other inner within =
       let dead = may.laid.dead in let room = may.room in let after = row-anchored_shift s (inr inner) within in
       inl (omega arith)
-  classes-apart (suc zero) s before other inner within =
-      let unreached = may.laid.unreached in let room = may.room in let after = row-anchored_shift s (inr inner) within in
-      inl (omega arith)
+  classes-apart (suc zero) s before other inner within = search (rules, row-anchored_shift)
   classes-apart (suc (suc zero)) s before other inner within = narrower _ _ (rows-apart 2 s (inl refl) inner before within)
   classes-apart (suc (suc (suc zero))) s before other inner within = absurd (other refl)
   classes-apart (suc (suc (suc (suc t)))) s before other inner within =
@@ -85,15 +83,11 @@ module _ (f : Filling) (nodes : List Node) (size : ℕ) (may : MayFill f nodes s
 
   -- and within the table
   pub classes-within : (t : ℕ) → t ≢ 3 → t < length f.numbers → slice_index_or f.numbers t 0 + alphabet_len f.classes ≤ size
-  classes-within zero other within =
-      let dead = may.laid.dead in let room = may.room in let whole = may.laid.whole in omega arith
-  classes-within (suc zero) other within =
-      let unreached = may.laid.unreached in let room = may.room in let whole = may.laid.whole in omega arith
-  classes-within (suc (suc zero)) other within =
-      let start = may.laid.start in let room = may.room in let whole = may.laid.whole in omega arith
+  classes-within zero other within = search rules
+  classes-within (suc zero) other within = search rules
+  classes-within (suc (suc zero)) other within = search rules
   classes-within (suc (suc (suc zero))) other within = absurd (other refl)
-  classes-within (suc (suc (suc (suc t)))) other within =
-      let there = may.laid.within (suc (suc (suc (suc t)))) (omega arith) within in let room = may.room in omega arith
+  classes-within (suc (suc (suc (suc t)))) other within = search rules
 
 -- the failure target of a string that isn't empty
 pub failed-to : (kind : MatchKind) (patterns : List (List ℕ)) (nodes : List Node) (s t : ℕ) (w : List ℕ) → w ≢ []
