@@ -7,8 +7,8 @@ use Rattle.std.proofs.Math.Seq.{take-append_seam}
 use Rattle.std.proofs.lemmas.Grind.{common_steps}
 use Rattle.ac_automaton.specs.Util.{GREATEST, plain_byte}
 use Rattle.ac_util.proofs.Lists.{IsIn, IsIn-append_cases, IsIn-append_left, IsIn-append_right, IsOrdered, IsOrdered-append}
-use Rattle.ac_automaton.specs.Prelude.{ANCHORED_START, FIRST_INNER, grown_view, IsGrown, IsNext, IsRangeOf, key_at, leading, fallback, nodes_of, QueuedState, START, Transition, Waits, word}
-use Rattle.ac_automaton.proofs.Grown.{AreStates-more, IsInner, nodes-cases, nodes-inner, nodes-more}
+use Rattle.ac_automaton.specs.Prelude.{ANCHORED_START, FIRST_INNER, grown_view, IsGrown, IsRangeOf, key_at, leading, fallback, nodes_of, QueuedState, Transition, Waits, word}
+use Rattle.ac_automaton.proofs.Grown.{AreStates-more, nodes-cases, nodes-inner, nodes-more}
 use Rattle.ac_automaton.proofs.Leading.{leading-apart, leading-has, leading-length, leading-plain, leading-small}
 use Rattle.ac_automaton.proofs.Orders.{rank}
 use Rattle.ac_util.proofs.Prefixes.{front-is, starts_with-length}
@@ -50,8 +50,15 @@ module _ (site : Site) {place end b : ℕ} {transitions : List Transition} {queu
       same-parent : (j : ℕ) → j < length site.states
           → slice_get (nodes_of site.sorted site.queue) j ≡ Some (Some (string site)) → ⊥
       same-parent j l node =
-          search (rules, long, nodes-cases, string, nodes-cases site.sorted site.queue j (Some (string site)) node,
-            string site, long site h run)
+          search (
+            rules,
+            long,
+            nodes-cases,
+            string,
+            nodes-cases site.sorted site.queue j (Some (string site)) node,
+            string site,
+            long site h run,
+          )
 
   -- nor does a child that came before have this string
   pub fresh : (k : ℕ) (q : QueuedState) → slice_get queue k ≡ Some q

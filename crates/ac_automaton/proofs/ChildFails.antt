@@ -1,8 +1,7 @@
 -- The failure target of a child.
-use Rattle.std.proofs.lemmas.Grind.{common_steps}
-use Rattle.std.proofs.Common.{◌≡◌, ◌≢◌, ℕ, ◌+◌, Bool, true, List, [], ◌∷◌, ◌++◌, length, ap, sym, subst, arith, Some, None, slice_get, rules}
+use Rattle.std.proofs.Common.{◌≡◌, ◌≢◌, ℕ, ◌+◌, Bool, true, List, [], ◌∷◌, ◌++◌, length, sym, subst, arith, Some, None, slice_get, rules}
 use Rattle.std.proofs.lemmas.List.{length_push}
-use Rattle.ac_automaton.specs.Util.{equal_to, is_leftmost, MatchKind, No, Node, step}
+use Rattle.ac_automaton.specs.Util.{equal_to, is_leftmost, MatchKind, No, step}
 use Rattle.ac_automaton.specs.Prelude.{byte_at, grown_view, HasChild, HasState, Keyed, fallback, nodes_of, QueuedState, State, Transition, word}
 use Rattle.ac_automaton.proofs.Branching.{word-length}
 use Rattle.ac_automaton.proofs.Misses.{fallback-child, fallback-pattern, fallback-start}

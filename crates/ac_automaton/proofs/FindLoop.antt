@@ -127,5 +127,8 @@ module _ (s : Scan) (stops : Bool) (bytes : List ℕ) (span : Span) where
       → SearchGoesOn s.built.kind order r → at ≤ span.end → span.end ≤ length bytes → node_at at ≡ None
       → r ≡ pick order q
   dead-stays at r ordered picked goes up inside dead =
-      grind (arith, common_steps,
-        pick-stays_dead s.built.kind order (up_to at) (span.end - at) (omega arith) (omega arith) dead (subst (SearchGoesOn s.built.kind order) picked goes))
+      grind (
+        arith,
+        common_steps,
+        pick-stays_dead s.built.kind order (up_to at) (span.end - at) (omega arith) (omega arith) dead (subst (SearchGoesOn s.built.kind order) picked goes),
+      )

@@ -1,10 +1,9 @@
 -- A find on its way: where its scanner has come to, and what it picks so far.
-use Rattle.std.proofs.lemmas.Grind.{common_steps}
-use Rattle.std.proofs.Common.{◌≡◌, ◌+◌, ◌-◌, ◌≤◌, ℕ, Bool, true, false, IsTrue, ◌↔◌, List, [], ◌++◌, length, ap, refl, subst, sym, ◌∙◌, arith, Option, IfSome, rules}
+use Rattle.std.proofs.Common.{◌≡◌, ◌+◌, ◌-◌, ◌≤◌, ℕ, Bool, true, false, IsTrue, ◌↔◌, List, ◌++◌, length, refl, subst, sym, ◌∙◌, arith, Option, IfSome, rules}
 use Rattle.std.specs.Option.{option_or}
 use Rattle.ac_util.proofs.SearchLoop.{SearchGoesOn}
 use Rattle.ac_automaton.specs.Util.{Counts, is_leftmost, Node, Occurrence, order_of, Span, Standard, Taped, usize_max}
-use Rattle.ac_automaton.specs.Prelude.{Advances, Cursor, FindsOn, FitsIn, found_at, HasPicked, in_memory, IsAlive, IsAnswered, IsAt, LeadsTo, matches_of, MayAdvance, MayFind, MayPick, node, NoMatchBetween, PassesNoMatch, past, PicksOn, Scan, ScannerView, ScanText, work_of}
+use Rattle.ac_automaton.specs.Prelude.{Advances, Cursor, FindsOn, FitsIn, found_at, HasPicked, in_memory, IsAlive, IsAnswered, IsAt, LeadsTo, MayAdvance, MayFind, MayPick, node, NoMatchBetween, PassesNoMatch, past, PicksOn, Scan, ScannerView, ScanText, work_of}
 use Rattle.ac_automaton.specs.Finds.{FindsAt, StandsIn}
 use Rattle.ac_automaton.proofs.FindAhead.{IsUnanswered, answer-there, decided-there, ends-or, ends-there, picked-or, unanswered-by}
 use Rattle.ac_automaton.proofs.FindLoop.{goes_on-by, searched}

@@ -1,10 +1,10 @@
 -- A find that skips: it picks what its prefilter says, or has passed over no match where it reads on.
-use Rattle.std.proofs.Common.{◌≡◌, ℕ, zero, suc, ◌+◌, ◌<◌, ◌≤◌, Bool, true, false, List, [], ◌∷◌, length, refl, ap, sym, arith, Option, Some, None, IfSome, map, subst, ◌∙◌, rules}
+use Rattle.std.proofs.Common.{◌≡◌, ℕ, zero, suc, ◌+◌, ◌<◌, ◌≤◌, Bool, true, false, List, [], ◌∷◌, length, refl, ap, sym, arith, Option, Some, None, IfSome, subst, ◌∙◌, rules}
 use Rattle.std.specs.List.{list_any}
 use Rattle.std.proofs.lemmas.Bool.{cases_lt}
 use Rattle.std.proofs.lemmas.Grind.{common_steps}
 use Rattle.ac_util.specs.declared.search.Anchored.{Anchored}
-use Rattle.ac_automaton.specs.Util.{Built, Counts, is_empty, is_leftmost, IsNeedleMatch, MatchKind, may_skip, No, Node, Occurrence, Occurs, one_more_call, order_of, IsPick, participates, pick, plain, plain_patterns, reached, text, Search, search_over, Skip, Span, Taped, usize_max}
+use Rattle.ac_automaton.specs.Util.{Built, Counts, is_empty, is_leftmost, IsNeedleMatch, MatchKind, may_skip, No, Node, Occurrence, Occurs, one_more_call, order_of, IsPick, participates, pick, plain_patterns, reached, text, Search, search_over, Skip, Span, Taped, usize_max}
 use Rattle.ac_util.proofs.SearchLoop.{SearchGoesOn}
 use Rattle.ac_util.proofs.Walks.{pick-Occurs}
 use Rattle.ac_util.proofs.AtStart.{pick-rest}
@@ -95,8 +95,11 @@ module _ (s : Scan) (bytes : List ℕ) (span : Span) {needle : List ℕ} (by : S
         → IfSome r (ReadsTo span.start begun after)
     ends-there None answer = tt
     ends-there (Some m) answer =
-        grind (arith, common_steps,
-          pick-Occurs picks (search_over s.built.ignores_case s.built.patterns bytes cursor.at span.end) m answer)
+        grind (
+          arith,
+          common_steps,
+          pick-Occurs picks (search_over s.built.ignores_case s.built.patterns bytes cursor.at span.end) m answer,
+        )
 
     says : (r : Option Occurrence) → IfSome r (HasReadMatch span.start begun after)
     says None = tt
@@ -121,8 +124,11 @@ pub may-find-first : {v : ScannerView} {stops : Bool} {tape : Taped} {state : �
     → v.span.end ≤ usize_max → v.span.start ≤ v.span.end → v.scan.stands state (Some []) → (stops ≡ false → is_leftmost v.scan.built.kind ≡ true)
     → MayFind v stops tape (record { state = state; at = v.span.start })
 may-find-first {v} {stops} {tape} may memory small ordered starts leftmost =
-    grind (arith, common_steps,
-      ready-start v.scan stops tape.bytes v.span starts (omega (arith, ordered, may.end_within)))
+    grind (
+      arith,
+      common_steps,
+      ready-start v.scan stops tape.bytes v.span starts (omega (arith, ordered, may.end_within)),
+    )
 
 -- what a find answers that begins there is said of its finder
 pub finds-in : (a : AutomatonView) {anchored : Anchored} {span : Span} {stops : Bool} {tape new_tape : Taped}

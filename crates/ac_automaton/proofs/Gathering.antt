@@ -1,5 +1,5 @@
 -- Bytes that are gathered on their way to a writer: one piece and then another, and where a write fails.
-use Rattle.std.proofs.Common.{◌≡◌, ◌∙◌, ℕ, List, [], ◌++◌, length-append, append_assoc, append-nil, refl, sym, ap, subst, arith, Option, Some, None, Result, Ok, Err, MatchResult, rules}
+use Rattle.std.proofs.Common.{◌≡◌, ◌∙◌, ℕ, List, [], ◌++◌, length-append, append-nil, refl, subst, arith, Option, Some, None, Result, Ok, Err, MatchResult, rules}
 use Rattle.std.proofs.Math.Seq.{take-append-add}
 use Rattle.std.proofs.lemmas.Grind.{common_steps}
 use Rattle.ac_automaton.specs.Util.{error_of, Replacing, StreamError, WriteError, WritesAll, WritesUntilFailure, Writing}

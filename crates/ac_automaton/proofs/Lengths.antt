@@ -1,6 +1,6 @@
 -- The shortest and the longest of a list of patterns, found one pattern at a time.
 use Rattle.std.proofs.Common.{◌≡◌, ℕ, ◌+◌, ◌≤◌, List, [], ◌∷◌, length, drop, min, max, Some, ap, arith, slice_get}
-use Rattle.ac_util.specs.Sizes.{longest_len, shortest_len}
+use Rattle.ac_util.specs.Patterns.{longest_len, shortest_len}
 use Rattle.ac_util.proofs.Lists.{drop-slice_get}
 use Rattle.ac_automaton.specs.Util.{usize_max}
 

@@ -205,6 +205,12 @@ module _ (s : Scan) (bytes : List ℕ) (span : Span) where
         → Lists s.built s.anchored (node s t cursor.at) (s.listed cursor.state)
         → HasComeOn reached (arrived cursor.state cursor.at)
     come-on before lists =
-        search (rules, all-quiet, arrives, given-arrived, listing-next,
+        search (
+          rules,
+          all-quiet,
+          arrives,
+          given-arrived,
+          listing-next,
           all-quiet (cursor.at - 1 - reached.at) (omega arith),
-          listing-next standard (cursor.at - 1) (omega arith) (omega arith))
+          listing-next standard (cursor.at - 1) (omega arith) (omega arith),
+        )

@@ -1,6 +1,5 @@
 -- A listing on its way: it has read on, and has given no item yet.
-use Rattle.std.proofs.lemmas.Grind.{common_steps}
-use Rattle.std.proofs.Common.{◌≡◌, ◌⊎◌, ◌<◌, ℕ, [], IsTrue, ◌↔◌, Bool, false, length, ap, subst, sym, ◌∙◌, inl, inr, arith, Option, Some, None, rules}
+use Rattle.std.proofs.Common.{◌≡◌, ◌⊎◌, ◌<◌, ℕ, [], IsTrue, ◌↔◌, Bool, false, subst, sym, ◌∙◌, inr, Option, Some, None, rules}
 use Rattle.std.proofs.lemmas.Bool.{cases_lt, false≢true}
 use Rattle.ac_automaton.specs.Util.{Counts, Node, Occurrence, Taped}
 use Rattle.ac_automaton.specs.Scans.{IsOver}

@@ -1,6 +1,6 @@
 -- What a state lists along its output links are the matches of its node.
 use Rattle.std.proofs.Common.{◌≡◌, ◌≢◌, ℕ, zero, suc, ◌+◌, ◌-◌, ◌≤◌, ◌<◌, List, [], ◌∷◌, ◌++◌, length, get_or, drop, refl, ap, sym, ◌∙◌, arith, None, rules}
-use Rattle.std.proofs.Math.Seq.{drop-append-add, drop-nil}
+use Rattle.std.proofs.Math.Seq.{drop-append-add}
 use Rattle.std.proofs.lemmas.List.{drop-append-le, get_or-drop, get_or-take, get_or_default}
 use Rattle.std.proofs.lemmas.Grind.{common_steps}
 use Rattle.ac_util.specs.Node.{Node}

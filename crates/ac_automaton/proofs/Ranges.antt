@@ -1,6 +1,6 @@
 -- The patterns that begin with one string stand side by side: first those that are the string, then a run for
 -- each next byte.
-use Rattle.std.proofs.Common.{◌≡◌, ◌≢◌, ℕ, suc, ◌+◌, ◌-◌, ◌<◌, ◌≤◌, true, List, [], ◌∷◌, ◌++◌, length, inl, inr, refl, ap, sym, ◌∙◌, subst, arith, Option, Some, None, get_or, nat_eq, bytes_eq, slice_get, slice_range, rules}
+use Rattle.std.proofs.Common.{◌≡◌, ◌≢◌, ℕ, suc, ◌+◌, ◌-◌, ◌<◌, ◌≤◌, true, List, [], ◌∷◌, ◌++◌, length, inl, inr, refl, ap, sym, ◌∙◌, arith, Option, Some, None, get_or, nat_eq, slice_get, slice_range, rules}
 use Rattle.std.specs.Cmp.Lexicographic.{slice_cmp, nat_list_cmp_total}
 use Rattle.std.specs.List.{starts_with}
 use Rattle.std.specs.Ordering.{nat_cmp, ordering_reverse}
@@ -75,10 +75,18 @@ module _ (kind : MatchKind) (patterns : List (List ℕ)) (sorted : List Keyed)
   -- and each pattern that takes part has a place
   pub place-at : (n : ℕ) → IsIn n (participants kind patterns) → IsInRange n
   place-at n h =
-      search (rules, Contains-from_IsIn, IsIn-from_Contains, at-place, get-same, length-map, place-of,
+      search (
+        rules,
+        Contains-from_IsIn,
+        IsIn-from_Contains,
+        at-place,
+        get-same,
+        length-map,
+        place-of,
         place-of n (numbers sorted) (IsIn-from_Contains n (numbers sorted) ((order.lists n).1 (Contains-from_IsIn n (participants kind patterns) h))),
         IsIn-from_Contains n (numbers sorted) ((order.lists n).1 (Contains-from_IsIn n (participants kind patterns) h)),
-        Contains-from_IsIn n (participants kind patterns) h)
+        Contains-from_IsIn n (participants kind patterns) h,
+      )
 
   -- a prefix of a pattern leads to a node
   pub pattern-node : (k : ℕ) (u : List ℕ) → k < length sorted → starts_with nat_eq (key_at sorted k) u ≡ true
@@ -177,10 +185,17 @@ module _ (kind : MatchKind) (patterns : List (List ℕ)) (sorted : List Keyed)
     -- the first of the range is the string exactly if some pattern that takes part is
     pub equal_to-some : from < to → byte_at sorted (length u) from ≡ None → equal_to kind patterns u ≢ []
     equal_to-some some ends none =
-        search (rules, IsIn-filter, at-place, begins, none-from_nil, starts_with-ended,
+        search (
+          rules,
+          IsIn-filter,
+          at-place,
+          begins,
+          none-from_nil,
+          starts_with-ended,
           at-place from (omega (arith, range.within)),
           starts_with-ended (key_at sorted from) u (begins from (omega arith) some) ends,
-          begins from (omega arith) some)
+          begins from (omega arith) some,
+        )
 
     -- and where it is longer, none is
     pub equal_to-none : byte_at sorted (length u) from ≢ None → equal_to kind patterns u ≡ []

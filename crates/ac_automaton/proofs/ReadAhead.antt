@@ -1,5 +1,5 @@
 -- Reading on up to a match: where the automaton stands, and that it has passed over none.
-use Rattle.std.proofs.Common.{◌≡◌, ◌≢◌, ◌⊎◌, ℕ, ◌+◌, ◌<◌, ◌≤◌, ◌↔◌, Bool, false, IsTrue, List, [], length, ap, inl, inr, subst, sym, refl, ◌++◌, ◌∷◌, ◌∙◌, arith, None, rules}
+use Rattle.std.proofs.Common.{◌≡◌, ◌≢◌, ◌⊎◌, ℕ, ◌+◌, ◌<◌, ◌≤◌, ◌↔◌, Bool, false, IsTrue, List, [], inl, inr, subst, sym, refl, ◌++◌, ◌∷◌, ◌∙◌, arith, None, rules}
 use Rattle.std.proofs.lemmas.Bool.{cases_lt, false≢true}
 use Rattle.std.proofs.lemmas.Grind.{common_steps}
 use Rattle.ac_util.specs.declared.search.Anchored.{Anchored}

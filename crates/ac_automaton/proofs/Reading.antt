@@ -78,10 +78,13 @@ module _ (trie : Trie) (nodes : List Node) where
       → (t : State) → t ≡ get_or trie.states s t
       → (index : ℕ) → index < t.transitions_end - t.transitions → HasOwn trie s index
   has-own is_trie s numbered t is index within =
-      grind (arith, common_steps,
+      grind (
+        arith,
+        common_steps,
         own-length s (get_or nodes s None) t (reads is_trie s (get_or nodes s None) (slice_get-get_or nodes s None (omega arith)) t is),
         reads is_trie s (get_or nodes s None) (slice_get-get_or nodes s None (omega arith)) t is,
-        slice_get-get_or nodes s None (omega arith))
+        slice_get-get_or nodes s None (omega arith),
+      )
 
   -- the transition at a place is by the byte at the place, and leads to the longer node
   pub own-read : (s : ℕ) (w : List ℕ) (t : State) → Represents (meaning_of trie nodes) s (Some w) t
@@ -108,5 +111,9 @@ pub record IsPlace (trie : Trie) (t : State) (index : ℕ) : Type 0 where
 pub own-place : (trie : Trie) (s index : ℕ) → HasOwn trie s index → (t : State) → t ≡ get_or trie.states s t
     → IsPlace trie t index
 own-place trie s index own t is =
-    grind (arith, common_steps, reads trie own.nodes own.are_nodes.is_trie s own.node own.named t is,
-      own-length trie own.nodes s own.node t (reads trie own.nodes own.are_nodes.is_trie s own.node own.named t is))
+    grind (
+      arith,
+      common_steps,
+      reads trie own.nodes own.are_nodes.is_trie s own.node own.named t is,
+      own-length trie own.nodes s own.node t (reads trie own.nodes own.are_nodes.is_trie s own.node own.named t is),
+    )

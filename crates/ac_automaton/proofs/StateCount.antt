@@ -8,7 +8,7 @@ use Rattle.ac_automaton.specs.Util.{BuildError, GREATEST, inner_nodes, is_node, 
 use Rattle.ac_util.proofs.Lists.{IsIn, IsOrdered, IsIn-from_Contains, IsIn-from_map, Contains-from_IsIn}
 use Rattle.ac_util.proofs.NodeCount.{inner_nodes-has, inner_nodes-only, inner_nodes-apart}
 use Rattle.ac_util.proofs.Participants.{is_node-front}
-use Rattle.ac_automaton.specs.Prelude.{AreStates, byte_at, FIRST_INNER, grown_view, IsGrown, IsNotPushed, IsNumberOf, IsOrder, IsRangeOf, IsRefused, key_at, Keyed, fallback, nodes_of, NumbersNodes, QueuedState, Represents, START, State, state_at, too_many_states, Transition, transition_bytes, transitions_of, word}
+use Rattle.ac_automaton.specs.Prelude.{AreStates, byte_at, FIRST_INNER, grown_view, IsGrown, IsNotPushed, IsNumberOf, IsOrder, IsRangeOf, IsRefused, Keyed, fallback, nodes_of, NumbersNodes, QueuedState, Represents, START, State, state_at, too_many_states, Transition, transition_bytes, transitions_of, word}
 use Rattle.ac_automaton.proofs.Branched.{transition_target-is, some_node}
 use Rattle.ac_automaton.proofs.Branching.{IsBranching, IsRun, Site, child-range, string, word-length}
 use Rattle.ac_automaton.proofs.Child.{fresh}

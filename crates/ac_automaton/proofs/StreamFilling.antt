@@ -1,10 +1,10 @@
 -- The search of a stream: how it begins, how its buffer is filled and makes room, and what is seen then.
-use Rattle.std.proofs.Common.{◌≡◌, ℕ, ◌+◌, ◌-◌, ◌<◌, ◌≤◌, Bool, false, List, [], ◌++◌, length, length-append, length-drop, take, drop, max, inl, inr, refl, ap, sym, subst, ◌∙◌, arith, Some, None, if◌then◌else◌, not, slice_range, rules}
+use Rattle.std.proofs.Common.{◌≡◌, ℕ, ◌+◌, ◌-◌, ◌<◌, ◌≤◌, Bool, false, List, [], ◌++◌, length, length-append, length-drop, take, drop, max, inl, inr, refl, ap, sym, ◌∙◌, arith, Some, None, if◌then◌else◌, not, slice_range, rules}
 use Rattle.std.specs.Prelude.{⊤}
 use Rattle.std.proofs.lemmas.List.{append-nil, drop-append-le, drop-drop, length-take-le}
-use Rattle.std.proofs.Math.Seq.{take-add, take-append_seam}
+use Rattle.std.proofs.Math.Seq.{take-add}
 use Rattle.std.proofs.lemmas.Grind.{common_steps}
-use Rattle.ac_automaton.specs.Util.{buffer_len, Built, from, is_leftmost, IsSettledBy, longest_len, Node, Occurrence, pick, Span, stream_refusal, stream_result, walk_after, usize_max}
+use Rattle.ac_automaton.specs.Util.{buffer_len, Built, from, is_leftmost, IsSettledBy, longest_len, Node, pick, Span, stream_refusal, stream_result, usize_max}
 use Rattle.ac_util.proofs.Longer.{pick-extended}
 use Rattle.ac_util.proofs.Spans.{take_drop_take}
 use Rattle.ac_util.proofs.Walks.{next-none, walk_after-None}

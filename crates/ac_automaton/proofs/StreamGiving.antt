@@ -136,9 +136,19 @@ module _ (stands : ℕ → Node → Type 0) (listed : ℕ → List ℕ) (most : 
           ≡ (inv.given.matches ++ m ∷ [])
           ++ walk_after v.built.kind (stream_from v.built (v.bytes ++ more) m.end) (Some m.end)
       walks-on last =
-          search (rules, append_assoc, next-some, occurs, some-bytes, stays-pick, walk_after-Some, occurs.as_long,
+          search (
+            rules,
+            append_assoc,
+            next-some,
+            occurs,
+            some-bytes,
+            stays-pick,
+            walk_after-Some,
+            occurs.as_long,
             walk_after-Some v.built.kind (stream_from v.built (v.bytes ++ more) i.begun),
-            next-some v.built.kind (stream_from v.built (v.bytes ++ more) i.begun), stays-pick last)
+            next-some v.built.kind (stream_from v.built (v.bytes ++ more) i.begun),
+            stays-pick last,
+          )
 
     next-there : slice_get (stream_result v.built v.bytes) v.given ≡ Some m
     next-there = grind (arith, common_steps, append-nil v.bytes, walks-on, get-beyond)
@@ -185,9 +195,12 @@ module _ (stands : ℕ → Node → Type 0) (listed : ℕ → List ℕ) (most : 
             → IsSettledAt v.built v.bytes (length (inv.given.matches ++ m ∷ [])) m.end → (v.phase ≡ Ended → ⊥)
             → IsSettling v m
         by-leftmost first h open' =
-            grind (arith, common_steps,
+            grind (
+              arith,
+              common_steps,
               settles (length (inv.given.matches ++ m ∷ [])) m.end (settled-kind v.built v.bytes (length (inv.given.matches ++ m ∷ [])) m.end v.built.kind first h) open',
-              settled-kind v.built v.bytes (length (inv.given.matches ++ m ∷ [])) m.end v.built.kind first h)
+              settled-kind v.built v.bytes (length (inv.given.matches ++ m ∷ [])) m.end v.built.kind first h,
+            )
 
         leftmost-settles : is_leftmost v.built.kind ≡ true → (v.phase ≡ Ended → ⊥)
             → IsSettledAt v.built v.bytes (length (inv.given.matches ++ m ∷ [])) m.end

@@ -72,10 +72,13 @@ module _ (stands : ℕ → Node → Type 0) (listed : ℕ → List ℕ) (most : 
           by : (u : Node) → here ≡ u → length v.bytes ≤ m.start + longest_len v.built.patterns
           by None dead = absurd (alive dead)
           by (Some u) stands' =
-              grind (arith, common_steps,
+              grind (
+                arith,
+                common_steps,
                 pick-beyond v.built.kind (up_to v i.begun (v.front + at)) refl on.is_at.onward (within-bytes inv on) first u stands' v.built.kind m (sym on.picks ∙ is),
                 up_to v i.begun (v.front + at),
-                node-short v.built.kind (up_to v i.begun (v.front + at)) refl on.is_at.onward (within-bytes inv on) u stands')
+                node-short v.built.kind (up_to v i.begun (v.front + at)) refl on.is_at.onward (within-bytes inv on) u stands',
+              )
 
       starts-beyond-kept : is_leftmost v.built.kind ≡ true → (m : Occurrence) → picked ≡ Some m → kept_open ≤ m.start
       starts-beyond-kept first m is = search (rules, end-is, most-leftmost, near-picked)

@@ -1,5 +1,5 @@
 -- The search of a stream reads on from where it stands: what it picks then.
-use Rattle.std.proofs.Common.{◌≡◌, ℕ, ◌+◌, ◌-◌, ◌<◌, ◌≤◌, Bool, true, false, List, length, length-take, take, drop, max, inl, inr, refl, ap, sym, subst, ◌∙◌, arith, Option, Some, None, IfSome, not, rules}
+use Rattle.std.proofs.Common.{◌≡◌, ℕ, ◌+◌, ◌-◌, ◌<◌, ◌≤◌, Bool, true, false, List, length, take, drop, max, inl, inr, refl, ap, sym, subst, ◌∙◌, arith, Option, Some, None, IfSome, not, rules}
 use Rattle.std.proofs.lemmas.Bool.{cases_lt, false≢true}
 use Rattle.std.proofs.lemmas.List.{take-append-drop}
 use Rattle.std.proofs.lemmas.Grind.{common_steps}
@@ -7,7 +7,7 @@ use Rattle.ac_automaton.specs.Util.{Counts, is_leftmost, IsPick, LeftmostFirst, 
 use Rattle.ac_util.proofs.Picks.{pick-from_IsPick, pick-IsPick}
 use Rattle.ac_util.proofs.Shortest.{longest-most}
 use Rattle.ac_util.proofs.Walks.{pick-Occurs}
-use Rattle.ac_automaton.specs.Prelude.{Cursor, HasPicked, HasReadOn, Inside, IsStreaming, LeadsTo, MayPick, past, PicksOn, Reaches, ScannerView, ScanText, search_through, stream_from, Streaming}
+use Rattle.ac_automaton.specs.Prelude.{Cursor, HasPicked, HasReadOn, Inside, IsStreaming, LeadsTo, MayPick, past, PicksOn, ScannerView, ScanText, search_through, stream_from, Streaming}
 use Rattle.ac_automaton.proofs.ReadOn.{past-is}
 use Rattle.ac_automaton.proofs.StreamText.{scan}
 use Rattle.ac_automaton.proofs.StreamReserves.{most-back}

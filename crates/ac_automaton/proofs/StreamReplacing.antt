@@ -1,11 +1,10 @@
 -- The steps of a stream's replacement by a closure, without what wraps it.
-use Rattle.std.proofs.Common.{◌≡◌, ℕ, Bool, List, [], ◌∷◌, take, drop, inl, inr, refl, ap, subst, arith, Option, Some, None, Result, Ok, Err, MatchResult, slice_range, rules}
+use Rattle.std.proofs.Common.{◌≡◌, ℕ, Bool, List, [], ◌∷◌, take, drop, inl, inr, ap, subst, arith, Option, Some, None, Result, Ok, Err, MatchResult, slice_range, rules}
 use Rattle.std.specs.Borrow.{Bor, MutBor}
 use Rattle.std.specs.Fn.{Mut}
 use Rattle.std.specs.declared.io.Error.{Error}
-use Rattle.std.proofs.lemmas.List.{take_all}
 use Rattle.std.proofs.lemmas.Grind.{common_steps}
-use Rattle.ac_automaton.specs.Util.{AnswersStream, answer_of_result, Built, Calls, FailsToReplaceWith, IsSettledBy, LeftmostFirst, LeftmostLongest, MatchAnswer, MatchError, MatchKind, Occurrence, Reading, ReplacementSteps, ReplacesStreamWith, Replacing, settled, Standard, StepsAreSettled, stream_result, StreamError, WritesPiece, Writing}
+use Rattle.ac_automaton.specs.Util.{AnswersStream, answer_of_result, Built, Calls, FailsToReplaceWith, MatchAnswer, MatchError, Occurrence, Reading, ReplacementSteps, ReplacesStreamWith, Replacing, settled, stream_result, StreamError, WritesPiece, Writing}
 use Rattle.ac_util.specs.declared.error.StreamError.TheVariants.{Io}
 use Rattle.ac_automaton.proofs.Gathering.{piece-written}
 use Rattle.ac_automaton.specs.Prelude.{answer_of_exchange, ByClosure, CallsBy, FailsBy, Passing, PassesPiece, ReplacesBy, Steps}
@@ -98,5 +97,8 @@ module _ {F D : Type 0} (told : D → Writing)
             (take fails.given (stream_result built bytes)) (bare first) None (bare t)
         bare-made = bare-steps (take fails.place bytes) 0 (take fails.given (stream_result built bytes)) first t None fails.steps
     fails-with e (bytes, inr fails, small) =
-        search (rules, bare-steps,
-          bare-steps (take fails.1 bytes) 0 (take fails.0 (stream_result built bytes)) first t (Some e) fails.3)
+        search (
+          rules,
+          bare-steps,
+          bare-steps (take fails.1 bytes) 0 (take fails.0 (stream_result built bytes)) first t (Some e) fails.3,
+        )

@@ -1,13 +1,10 @@
 -- The text that the replacement of a stream by a list of texts leaves.
-use Rattle.std.proofs.Common.{◌≡◌, ◌≢◌, ℕ, suc, ◌-◌, ◌≤◌, Bool, List, [], ◌∷◌, ◌++◌, length, length-append, length-drop, take, drop, inl, inr, refl, ap, sym, subst, ◌∙◌, arith, Option, Some, None, Result, Ok, Err, All, slice_index_or, slice_range, rules}
-use Rattle.std.proofs.Math.Seq.{take-append_seam}
-use Rattle.std.proofs.lemmas.List.{drop-take, drop_all, take-append-drop, take_all}
+use Rattle.std.proofs.Common.{◌≡◌, ℕ, ◌-◌, Bool, List, [], ◌∷◌, ◌++◌, length, take, drop, inl, inr, refl, sym, subst, ◌∙◌, arith, Option, Some, None, Result, Ok, Err, slice_index_or, slice_range, rules}
+use Rattle.std.proofs.lemmas.List.{take_all}
 use Rattle.std.proofs.lemmas.Grind.{common_steps}
-use Rattle.ac_automaton.specs.Util.{Built, error_of, FailsToReplace, kept_back_len, IsSettledAt, IsSettledBy, last_end, LeftmostFirst, LeftmostLongest, MatchAnswer, MatchKind, Occurrence, Reading, replaced, replaced_from, ReplacesStream, Replacing, settled, Standard, stream_result, StreamError, without_last, WriteError, WritesUntilFailure, Writing}
-use Rattle.ac_util.proofs.Exchanges.{AreInOrder, exchanged-in_order}
-use Rattle.ac_util.proofs.PiecesLemmas.{slice_range-append}
+use Rattle.ac_automaton.specs.Util.{Built, error_of, FailsToReplace, MatchAnswer, Occurrence, Reading, replaced, replaced_from, ReplacesStream, Replacing, stream_result, StreamError, WriteError, WritesUntilFailure, Writing}
 use Rattle.ac_automaton.specs.Prelude.{answer_of_exchange, error_in, FailsBy, Passing, PassesPiece, PassesText, ReplacesBy, Steps}
-use Rattle.ac_automaton.proofs.Gathering.{piece-begun, piece-failed, piece-join, piece-written}
+use Rattle.ac_automaton.proofs.Gathering.{piece-begun, piece-join}
 use Rattle.ac_util.proofs.ReplacedCuts.{all-apart, apart-by, AreApart, cut-of, last-inside}
 
 -- an exchange by texts, which stay as they are
@@ -80,22 +77,33 @@ module _ {E D : Type 0} (passing : Passing E D) (texts : E → List (List ℕ))
     pub replaces-by : ReplacesBy passing exchanges ends built reader new_reader s t
         → ReplacesStream built list (passing.told s.destination) (passing.told t.destination) ends reader new_reader
     replaces-by (bytes, reads, clear, steps, small) =
-        grind (arith, common_steps, take_all (length bytes) bytes (omega arith),
-          text-steps (take (length bytes) bytes) 0 (stream_result built bytes) s t None list same steps)
+        grind (
+          arith,
+          common_steps,
+          take_all (length bytes) bytes (omega arith),
+          text-steps (take (length bytes) bytes) 0 (stream_result built bytes) s t None list same steps,
+        )
 
     -- a beginning of the replaced text as far as a place is one of all of it
     begun-text : (bytes : List ℕ) (given place : ℕ) (e : StreamError) → AreApart built bytes given place
         → Steps passing exchanges (take place bytes) 0 (take given (stream_result built bytes)) s (Some e) t
         → (failure : WriteError) × (e ≡ error_of failure) × WritesUntilFailure old new (whole-of bytes) failure
     begun-text bytes given place e apart steps =
-        grind (arith, common_steps, cut-of built list bytes given place apart,
-          text-steps (take place bytes) 0 (take given (stream_result built bytes)) s t (Some e) list same steps)
+        grind (
+          arith,
+          common_steps,
+          cut-of built list bytes given place apart,
+          text-steps (take place bytes) 0 (take given (stream_result built bytes)) s t (Some e) list same steps,
+        )
 
     pub fails-by : (e : StreamError) → FailsBy passing exchanges ends built reader new_reader s e t
         → FailsToReplace built list (passing.told s.destination) (passing.told t.destination) ends reader new_reader e
     fails-by e (bytes, inl fails, small) =
-        grind (arith, common_steps,
-          text-steps (take fails.place bytes) 0 (take fails.given (stream_result built bytes)) s t None list same fails.steps)
+        grind (
+          arith,
+          common_steps,
+          text-steps (take fails.place bytes) 0 (take fails.given (stream_result built bytes)) s t None list same fails.steps,
+        )
     fails-by e (bytes, inr (given, place, inl (some, is), steps), small) = search (rules, apart-by built, begun-text)
     fails-by e (bytes, inr (given, place, inr (all, many, is), steps), small) =
         search (rules, all-apart, begun-text, last-inside built)

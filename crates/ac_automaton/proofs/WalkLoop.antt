@@ -31,9 +31,16 @@ pub repeated : {picking : Picking} {q : Search} {r : Option Occurrence} {work ne
 repeated {r = None} last found beyond again = absurd (cc)
 repeated {r = Some m} None found beyond again = absurd (cc)
 repeated {picking = picking} {q = q} {r = Some m} (Some e) found beyond again =
-    search (rules, and_parts, eqb-true, pick-Occurs, shortest-least,
+    search (
+      rules,
+      and_parts,
+      eqb-true,
+      pick-Occurs,
+      shortest-least,
       eqb-true m.end e (and_parts (m.start == m.end) (m.end == e) again).1,
-      and_parts (m.start == m.end) (m.end == e) again, pick-Occurs picking.order q m (sym found.answer))
+      and_parts (m.start == m.end) (m.end == e) again,
+      pick-Occurs picking.order q m (sym found.answer),
+    )
 
 -- a walk that goes on at a place, after a match that ended at `last`
 abbrev pub going_on : Walking → ℕ → Option ℕ → Work → Walking

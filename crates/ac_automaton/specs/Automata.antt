@@ -1,8 +1,25 @@
 -- What contracts say of the states of an automaton, by the node that a state stands for.
-use Rattle.std.specs.Prelude.{◌≡◌, ◌↔◌, ℕ, Bool, List, ◌++◌, IfSome, IsTrue, map, Option}
+use Rattle.std.specs.Prelude.{ℕ, Bool, List, ◌≡◌, ◌↔◌, ◌++◌, IfSome, IsTrue, map, Option}
+use Rattle.ac_automaton.specs.Util.{Built, MatchKind, StartKind, Counts, looks_by, matches, more_looks, No, Node, plain, plain_byte, step, Yes}
 use Rattle.ac_util.specs.declared.search.Anchored.{Anchored}
-use Rattle.ac_automaton.specs.Util.{Built, Counts, looks_by, matches, more_looks, No, Node, plain, plain_byte, step, Yes}
 use Rattle.ac_automaton.specs.declared.automaton.listing.MatchRest.{MatchRest}
+
+-- the patterns, whether case is ignored, the match kind, and whether to have a prefilter
+pub record CommonView : Type 0 where
+  pub patterns : List (List ℕ)
+  pub ignores_case : Bool
+  pub kind : MatchKind
+  pub wants_prefilter : Bool
+
+-- what an engine was built from that has this and these starts
+abbrev pub built_as : CommonView → StartKind → Built
+built_as common start_kind =
+    record { patterns = common.patterns; ignores_case = common.ignores_case; kind = common.kind; start_kind = start_kind }
+
+-- what an engine has that was built from this, to have a prefilter or not
+abbrev pub common_of : Built → Bool → CommonView
+common_of built wants_prefilter =
+    record { patterns = built.patterns; ignores_case = built.ignores_case; kind = built.kind; wants_prefilter = wants_prefilter }
 
 -- the patterns as the nodes know them
 abbrev pub plain_of : Built → List (List ℕ)

@@ -1,12 +1,52 @@
 -- What the replacement of a stream has done so far.
-use Rattle.std.specs.Prelude.{◌≡◌, ◌⊎◌, ℕ, ◌<◌, ◌≤◌, Bool, List, ◌∷◌, ◌++◌, Option, None, Some, Result, Ok, Err, MatchResult, [], length, slice_index_or, take}
+use Rattle.std.specs.Prelude.{◌≡◌, ℕ, List, [], ◌++◌, MatchResult, Option, None, Result, Some, ◌⊎◌, ◌<◌, ◌≤◌, Bool, Ok, Err, length, slice_index_or, take}
+use Rattle.ac_automaton.specs.Util.{error_of, Replacing, StreamError, WriteError, WritesAll, WritesUntilFailure, Writing, Answer, Built, Calls, Fails, FailsToRead, Continues, IsNear, IsSettled, IsSettledBy, Occurrence, Reading, ReadsAll, ReplacementSteps, StartFrom, stream_result, usize_max}
+use Rattle.ac_automaton.specs.declared.automaton.stream_replace.ByTexts.{ByTexts}
 use Rattle.std.specs.Borrow.{Bor, MutBor}
 use Rattle.std.specs.Fn.{Mut}
 use Rattle.std.specs.declared.io.Error.{Error}
-use Rattle.ac_automaton.specs.Util.{Answer, Built, Calls, Fails, FailsToRead, Continues, IsNear, IsSettled, IsSettledBy, Occurrence, Reading, ReadsAll, ReplacementSteps, Replacing, StartFrom, stream_result, StreamError, usize_max}
 use Rattle.ac_util.specs.declared.error.StreamError.TheVariants.{Io}
-use Rattle.ac_automaton.specs.Gathering.{Passing, PassesPiece}
 use Rattle.ac_automaton.specs.Streams.{IsSettledIn, Streaming, matches_so_far}
+
+-- a part of what was held back and of some bytes after it was written, and the rest of it is held back
+pub record Gathers (old new : Writing) (held bytes still : List ℕ) : Type 0 where
+  pub part : List ℕ
+  pub writes : WritesAll old new part
+  pub whole : held ++ bytes ≡ part ++ still
+
+-- bytes were gathered after what was held back; or a beginning of both was written, and then a write has failed
+abbrev pub GathersOrFails : Writing → Writing → List ℕ → List ℕ → List ℕ → Result (Unit {0}) WriteError → Type 0
+GathersOrFails old new held bytes still result =
+    MatchResult result (λ done. Gathers old new held bytes still) (WritesUntilFailure old new (held ++ bytes))
+
+-- what was held back was written, and nothing is held back then; or a write has failed
+abbrev pub WritesHeld : Writing → Writing → List ℕ → List ℕ → Result (Unit {0}) WriteError → Type 0
+WritesHeld old new held still result =
+    MatchResult result (λ done. (still ≡ []) × WritesAll old new held) (WritesUntilFailure old new held)
+
+-- what a writer was told, what an exchange holds back, and what the exchange is without that
+pub record Passing (E D : Type 0) : Type 0 where
+  pub told : D → Writing
+  pub held : E → List ℕ
+  pub without : E → E
+
+-- an exchange by texts holds back what it has gathered
+abbrev pub by_texts : {D : Type 0} → (D → Writing) → Passing ByTexts D
+by_texts told = record { told = told; held = λ e. e.gathered; without = λ e. record e { gathered = [] } }
+
+module _ {E D : Type 0} (passing : Passing E D) where
+  -- the bytes are gathered; or a beginning of what was held back and of the bytes was written, and then a write has failed or
+  -- took nothing
+  abbrev pub PassesPiece : List ℕ → Replacing E D → Option StreamError → Replacing E D → Type 0
+  PassesPiece bytes s None t =
+      (passing.without t.closure ≡ passing.without s.closure)
+      × Gathers (passing.told s.destination) (passing.told t.destination) (passing.held s.closure) bytes
+      (passing.held t.closure)
+  PassesPiece bytes s (Some e) t =
+      (passing.without t.closure ≡ passing.without s.closure)
+      × ((failure : WriteError) × (e ≡ error_of failure)
+      × WritesUntilFailure (passing.told s.destination) (passing.told t.destination)
+      (passing.held s.closure ++ bytes) failure)
 
 -- the error in an answer, if there is one
 abbrev pub error_in : Result (Unit {0}) StreamError → Option StreamError

@@ -1,12 +1,34 @@
 -- What a find answers, and when it has read enough.
-use Rattle.std.specs.Prelude.{◌≡◌, ◌≢◌, ◌⊎◌, ◌↔◌, IsTrue, ℕ, ◌+◌, ◌-◌, ◌<◌, ◌≤◌, Bool, false, true, List, [], Option, None, Some, IfSome, option_map, slice_get, length, max}
+use Rattle.std.specs.Prelude.{ℕ, Bool, ◌≡◌, ◌≢◌, ◌⊎◌, ◌↔◌, IsTrue, ◌+◌, ◌-◌, ◌<◌, ◌≤◌, false, true, List, [], Option, None, Some, IfSome, option_map, slice_get, length, max}
 use Rattle.ac_util.specs.declared.search.Anchored.{Anchored}
-use Rattle.ac_automaton.specs.Util.{InputView, Built, Counts, depth, is_leftmost, MatchKind, may_skip, Node, Occurrence, occurrence, order_of, pattern_of, pick, Search, Span, Standard, Taped, usize_max, Yes}
+use Rattle.ac_automaton.specs.Util.{Built, MatchKind, order_of, InputView, Counts, depth, is_leftmost, may_skip, Node, Occurrence, occurrence, pattern_of, pick, Search, Span, Standard, Taped, usize_max, Yes}
+use Rattle.ac_automaton.specs.Automata.{AutomatonView, matches_of}
 use Rattle.ac_automaton.specs.declared.automaton.scan.Cursor.{Cursor}
-use Rattle.ac_automaton.specs.Automata.{matches_of}
-use Rattle.ac_automaton.specs.Finders.{Finding, Picking, picking_of}
-use Rattle.ac_automaton.specs.Progress.{HasRead, StopsAtDead, Work, most_looks, node_at, search_of, work_of}
-use Rattle.ac_automaton.specs.Scans.{IsAt, Scan, ScannerView, ScansTo, ScanText, in_memory, node, past, search_through}
+use Rattle.ac_automaton.specs.Scans.{HasRead, StopsAtDead, Work, most_looks, node_at, search_of, work_of, IsAt, Scan, ScannerView, ScansTo, ScanText, in_memory, node, past, search_through}
+
+-- how finds are made: the kind of their automaton, and the order by which they pick; how many looks it may take for each
+-- byte where it isn't anchored, and whether it was built to have a prefilter
+pub record Picking : Type 0 where
+  pub kind : MatchKind
+  pub order : MatchKind
+  pub most : ℕ
+  pub wants_prefilter : Bool
+
+-- by an automaton of this kind, with `earliest` or without
+abbrev pub picking_of : ℕ → MatchKind → Bool → Bool → Picking
+picking_of most kind wants_prefilter earliest =
+    record { kind = kind; order = order_of kind earliest; most = most; wants_prefilter = wants_prefilter }
+
+-- what the automaton of a finder was built from, and the anchoring; and how its finds are made
+pub record Finding : Type 0 where
+  pub built : Built
+  pub anchored : Anchored
+  pub picking : Picking
+
+-- the finder of an automaton
+abbrev pub finding_of : AutomatonView → Anchored → Bool → Finding
+finding_of a anchored earliest =
+    record { built = a.built; anchored = anchored; picking = picking_of a.most a.built.kind a.wants_prefilter earliest }
 
 -- what a core is asked: a span of the bytes of a tape, and two options
 abbrev pub input_over : List ℕ → ℕ → ℕ → Anchored → Bool → InputView

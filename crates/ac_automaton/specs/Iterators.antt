@@ -3,9 +3,8 @@ use Rattle.std.specs.Prelude.{◌≡◌, ℕ, ◌+◌, ◌-◌, ◌*◌, ◌<◌
 use Rattle.std.specs.Iterator.{YieldsFirst}
 use Rattle.ac_automaton.specs.Util.{InputView, Built, from, input_of, LeftmostFirst, LeftmostLongest, MatchKind, may_skip, next_match, Occurrence, pick, repeats, Search, shortest_len, Span, Standard, walk_after}
 use Rattle.ac_automaton.specs.declared.automaton.walk.TapedFinder.{TapedFinder}
-use Rattle.ac_automaton.specs.Finders.{Finding, Picking, picking_of}
-use Rattle.ac_automaton.specs.Finds.{HasSearched}
-use Rattle.ac_automaton.specs.Progress.{Work, most_looks, nothing_done, search_of, work_of}
+use Rattle.ac_automaton.specs.Finds.{Finding, Picking, picking_of, HasSearched}
+use Rattle.ac_automaton.specs.Scans.{Work, most_looks, nothing_done, search_of, work_of}
 
 -- the matches still to come; the finds that it makes; the search that is left, and where the match before it ended, if
 -- there was one; where the whole span began; and what was done so far

@@ -8,8 +8,7 @@ use Rattle.ac_automaton.specs.declared.automaton.listing.MatchRest.{MatchRest}
 use Rattle.ac_automaton.specs.declared.automaton.overlap.OverlappingState.{OverlappingState}
 use Rattle.ac_automaton.specs.declared.automaton.listing.Reached.{Reached}
 use Rattle.ac_automaton.specs.Automata.{AutomatonView, IsState}
-use Rattle.ac_automaton.specs.Progress.{Grows, HasRead, Reaches, Work, most_looks, nothing_done, work_of}
-use Rattle.ac_automaton.specs.Scans.{Scan, ScannerView, ScanText, ScansTo, in_memory, node, search_through}
+use Rattle.ac_automaton.specs.Scans.{Grows, HasRead, Reaches, Work, most_looks, nothing_done, work_of, Scan, ScannerView, ScanText, ScansTo, in_memory, node, search_through}
 
 -- the matches in a rest of a match list
 abbrev pub rest_in : (ℕ → List ℕ) → MatchRest → List ℕ

@@ -3,7 +3,7 @@ use Rattle.std.specs.Prelude.{◌≡◌, ◌≢◌, ◌⊎◌, ℕ, ◌+◌, ◌
 use Rattle.ac_automaton.specs.Util.{buffer_len, Built, FailsToRead, is_leftmost, IsNear, IsSettledBy, last_end, longest_len, No, Node, Occurrence, pick, Reading, ReadsAll, ReadsSome, reserve, Search, Standard, stream_refusal, stream_result, StreamError, walk_after, usize_max}
 use Rattle.ac_automaton.specs.declared.automaton.stream_settled.Phase.{Phase}
 use Rattle.ac_automaton.specs.declared.automaton.stream_settled.Phase.TheVariants.{Open, Ended, Failed}
-use Rattle.ac_automaton.specs.Progress.{Reaches, search_of}
+use Rattle.ac_automaton.specs.Scans.{Reaches, search_of}
 
 -- what its automaton was built from; all bytes that were read so far; how many of their matches were given; where in the
 -- stream the buffer begins, and from where on its bytes are kept; whether the stream goes on; how many bytes the buffer has

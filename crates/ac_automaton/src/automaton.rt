@@ -4,12 +4,11 @@ ghost use Rattle.std.specs.Iterator.Runs.{YieldsInOrder};
 ghost use Rattle.ac_util.specs.declared.search.Anchored.{Anchored};
 ghost use Rattle.ac_automaton.specs.Util.{input_of, bytes_of, longest_len, Node, pattern_of, shortest_len, skip_of};
 ghost use Rattle.ac_automaton.specs.Answers.{AnswersBytes, AnswersFind, AnswersListing, ExchangesStream, ExchangesStreamBy, AnswersText, AnswersWalk, BeginsBy, BeginsStream, ExchangesBytes, ExchangesText, FindsNext, IsPlacedIn};
-ghost use Rattle.ac_automaton.specs.Automata.{AutomatonView, CountsLooks, IsAnyState, IsState, KeepsAnchoring, Lists, StepsTo, Tells};
-ghost use Rattle.ac_automaton.specs.Common.{common_of};
+ghost use Rattle.ac_automaton.specs.Automata.{AutomatonView, CountsLooks, IsAnyState, IsState, KeepsAnchoring, Lists, StepsTo, Tells, common_of};
 ghost use Rattle.ac_automaton.specs.Iterators.{GoesOn};
 ghost use Rattle.ac_automaton.specs.Overlaps.{ListsNext, Takes};
 ghost use Rattle.ac_automaton.specs.Streams.{initial_reading};
-ghost use Rattle.ac_automaton.specs.Skipping.{Serves, skip_with};
+ghost use Rattle.ac_automaton.specs.Scans.{Serves, skip_with};
 
 use ac_util::device::{Sink, Source};
 use ac_util::error::{MatchError, ReplaceError, StreamError};

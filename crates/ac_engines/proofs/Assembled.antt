@@ -110,8 +110,13 @@ module _ (trie : Trie) (start_kind : StartKind) (classes : List ℕ) (exponent :
         → (first_row_in nodes numbers v + width (row_input filling nodes) ≤ first_row_in nodes numbers w)
         ⊎ (first_row_in nodes numbers w + width (row_input filling nodes) ≤ first_row_in nodes numbers v)
     ordered-apart s t v w first later order =
-        grind (arith, common_steps, slice_get_within nodes t (Some w) later.named,
-          place-row filling nodes size s v first, place-row filling nodes size t w later)
+        grind (
+          arith,
+          common_steps,
+          slice_get_within nodes t (Some w) later.named,
+          place-row filling nodes size s v first,
+          place-row filling nodes size t w later,
+        )
 
     -- so do those of any two strings
     strings-apart : (s t : ℕ) (v w : List ℕ) → HasRow filling nodes size s v → HasRow filling nodes size t w → v ≢ w

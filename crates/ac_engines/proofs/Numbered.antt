@@ -1,6 +1,6 @@
 -- Where the rows of the states of a trie stand.
 use Rattle.std.proofs.lemmas.Grind.{common_steps}
-use Rattle.std.proofs.Common.{◌≡◌, ◌≢◌, inl, inr, ℕ, zero, suc, ◌<◌, ◌≤◌, List, [], length, slice_index_or, arith, Some, slice_get, rules}
+use Rattle.std.proofs.Common.{◌≡◌, ◌≢◌, ℕ, zero, suc, ◌<◌, ◌≤◌, List, [], length, slice_index_or, arith, Some, slice_get, rules}
 use Rattle.ac_util.specs.Node.{Node}
 use Rattle.ac_util.proofs.NodeCount.{inner_nodes-only}
 use Rattle.ac_automaton.specs.Prelude.{AreNodes, plain_of, Trie}
@@ -49,5 +49,9 @@ module _ (f : Filling) (nodes : List Node) (size : ℕ) where
   pub place-row : (s : ℕ) (w : List ℕ) → HasRow f nodes size s w
       → first_row_in nodes f.numbers w ≡ slice_index_or f.numbers s 0
   place-row s w h =
-      grind (arith, common_steps, place-start f.trie nodes h.may.are_nodes f.numbers h.may.laid.count,
-        place-inner f.trie nodes h.may.are_nodes f.numbers s w h.may.laid.count)
+      grind (
+        arith,
+        common_steps,
+        place-start f.trie nodes h.may.are_nodes f.numbers h.may.laid.count,
+        place-inner f.trie nodes h.may.are_nodes f.numbers s w h.may.laid.count,
+      )

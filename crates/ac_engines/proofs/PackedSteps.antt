@@ -133,10 +133,19 @@ module _ (p : ContiguousView) (at : Places) (h : IsContiguous p at) where
   reads-inner : (x : ℕ) (w : List ℕ) (b : ℕ) → b < 256 → leads_on p.built (Some (x ∷ w)) b ≡ false
       → ReadsStep No (Some (x ∷ w)) b
   reads-inner x w b byte none =
-      search (rules, depth-failure, failure-node, looks-on, no-target, own-none, step-on, own-none (x ∷ w) b none,
+      search (
+        rules,
+        depth-failure,
+        failure-node,
+        looks-on,
+        no-target,
+        own-none,
+        step-on,
+        own-none (x ∷ w) b none,
         failure-node p.built.kind (plain_of p.built) x w,
         step-on p.built.kind (plain_of p.built) (Some (x ∷ w)) (plain_byte p.built.ignores_case b) (own-none (x ∷ w) b none) (omega arith),
-        looks-on p.built.kind (plain_of p.built) (Some (x ∷ w)) (plain_byte p.built.ignores_case b) (own-none (x ∷ w) b none) (omega arith))
+        looks-on p.built.kind (plain_of p.built) (Some (x ∷ w)) (plain_byte p.built.ignores_case b) (own-none (x ∷ w) b none) (omega arith),
+      )
 
   -- what is read at any state
   pub reads : (anchored : Anchored) (v : Node) (b : ℕ) → b < 256 → ReadsStep anchored v b

@@ -1,9 +1,7 @@
 -- How the words of a contiguous NFA stand for nodes.
 pub mod Builds
-pub mod Formats
 pub mod Packs
 pub mod Plans
-pub mod Sizes
 pub mod Words
 use Rattle.std.specs.Prelude.{◌≡◌, ◌≢◌, ℕ, ◌<◌, ◌≤◌, ◌↔◌, ◌+◌, ◌-◌, ◌/◌, ◌%◌, ◌==◌, ◌&&◌, nat_lt, if◌then◌else◌, Bool, List, [], ◌∷◌, ◌++◌, drop, length, map, slice_index_or, take, Some, None}
 use Rattle.ac_automaton.specs.Util.{alphabet_len, AreClasses, Both, Built, class_at, Counts, GREATEST, IsNode, longest_len, more_looks, No, Node, plain_byte, SetsApart, Yes}
@@ -11,9 +9,7 @@ use Rattle.ac_util.specs.declared.search.Anchored.{Anchored}
 use Rattle.ac_automaton.specs.Automata.{looks_of, step_of}
 use Rattle.ac_automaton.specs.Prelude.{built_as, CommonView, matches_of, fallback, transition_bytes_of, plain_of}
 use Rattle.ac_engines.specs.declared.nfa.contiguous.state.Edge.{Edge}
-use Rattle.ac_engines.specs.Contiguous.Formats.{dense_form, no_target, one_match}
-use Rattle.ac_engines.specs.Contiguous.Sizes.{node_format}
-use Rattle.ac_engines.specs.Contiguous.Words.{BeginsWith, PackedState}
+use Rattle.ac_engines.specs.Contiguous.Words.{dense_form, no_target, one_match, node_format, BeginsWith, PackedState}
 
 -- what the words were built from, and whether to have a prefilter; below which length states are dense, the class of
 -- each byte, the words, the numbers of the starts, and from which number on no state has matches

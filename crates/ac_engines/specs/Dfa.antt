@@ -4,7 +4,7 @@ pub mod Filling
 pub mod Layouts
 use Rattle.std.specs.Prelude.{◌≡◌, ◌≢◌, ◌⊎◌, ℕ, ◌+◌, ◌*◌, ◌^◌, ◌/◌, ◌<◌, ◌≤◌, Bool, List, [], length, slice_index_or, Some, None}
 use Rattle.ac_util.specs.declared.search.Anchored.{Anchored}
-use Rattle.ac_automaton.specs.Util.{alphabet_len, Both, Built, class_at, IsNode, matches, No, Node, start_refusal, StartKind, Unanchored, Yes}
+use Rattle.ac_automaton.specs.Util.{alphabet_len, Both, Built, class_at, IsNode, No, Node, start_refusal, StartKind, Unanchored, Yes}
 use Rattle.ac_util.specs.declared.search.StartKind.TheVariants.{Anchored as AnchoredAlone}
 use Rattle.ac_automaton.specs.Prelude.{built_as, CommonView, matches_of, plain_of, step_of}
 

@@ -1,8 +1,5 @@
 -- What is seen of the engines that are built from a noncontiguous NFA.
-pub mod Classes
 pub mod Contiguous
 pub mod Dfa
 pub mod Listed
-pub mod Nodes
-pub mod Numbering
 pub mod Prelude

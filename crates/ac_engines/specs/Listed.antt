@@ -1,13 +1,37 @@
 -- A state lists the matches of its node, all that an anchored search may want.
-use Rattle.std.specs.Prelude.{◌≡◌, ℕ, zero, suc, List, [], ◌∷◌, ◌++◌, flat_map, Option, Some, None}
+use Rattle.std.specs.Prelude.{ℕ, Bool, List, if◌then◌else◌, ◌≡◌, IfOk, Result, slice_get, Some, ◌<◌, ◌≤◌, MatchResult, zero, suc, [], ◌∷◌, ◌++◌, flat_map, Option, None}
+use Rattle.ac_util.specs.Classes.{classes_of, singletons}
+use Rattle.ac_util.specs.declared.search.Anchored.{Anchored}
+use Rattle.ac_automaton.specs.Util.{Node, BuildError, GREATEST, StateIdOverflow, equal_to, failure, last_start, matches, MatchKind, No, starting_by, Yes}
+use Rattle.ac_automaton.specs.Prelude.{AreNodes, ForNode, matches_of, Trie}
 use Rattle.std.proofs.Common.{refl, sym, ap, ◌∙◌}
 use Rattle.std.proofs.lemmas.List.{append-nil}
-use Rattle.ac_util.specs.declared.search.Anchored.{Anchored}
-use Rattle.ac_automaton.specs.Util.{equal_to, failure, last_start, matches, MatchKind, No, Node, starting_by, Yes}
 use Rattle.ac_util.proofs.Found.{matches-failure}
 use Rattle.ac_automaton.specs.Automata.{Lists, plain_of}
 use Rattle.ac_engines.specs.Contiguous.{ContiguousView, IsContiguousState, match_list_at}
 use Rattle.ac_engines.specs.Dfa.{DfaView, IsDfaState, list_at}
+
+-- those of the patterns' bytes, or a class for each byte
+abbrev pub classes_by : Bool → Bool → List (List ℕ) → List ℕ
+classes_by byte_classes ignores_case patterns = if byte_classes then classes_of ignores_case patterns else singletons
+
+-- a state of the trie stands for a node
+pub record HasNode (trie : Trie) (s : ℕ) : Type 0 where
+  pub nodes : List Node
+  pub are_nodes : AreNodes trie nodes
+  pub node : Node
+  pub named : slice_get nodes s ≡ Some node
+
+-- where the matches of a state succeed in being listed, the list has them
+abbrev pub ListsMatches : {E : Type 0} → Trie → Anchored → ℕ → List ℕ → Result (Unit {0}) E → Type 0
+ListsMatches trie anchored s listed result =
+    ForNode (AreNodes trie) s (λ nodes u. IfOk result (λ done. listed ≡ matches_of trie.built anchored u))
+
+-- the size, where a number is that of a state, or else the error that this number isn't one
+abbrev pub AnswersSize : ℕ → ℕ → Result ℕ BuildError → Type 0
+AnswersSize size number result =
+    MatchResult result (λ n. (n ≡ size) × (number ≤ GREATEST))
+    (λ e. (e ≡ StateIdOverflow GREATEST number) × (GREATEST < number))
 
 -- the matches of a node that count in an anchored search stand in front of all its matches
 record EqualFirst (kind : MatchKind) (patterns : List (List ℕ)) (w : List ℕ) : Type 0 where

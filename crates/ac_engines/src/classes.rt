@@ -1,7 +1,7 @@
 //! The classes of bytes that an engine is built with.
 ghost use Rattle.std.specs.Prelude.{◌≡◌};
 ghost use Rattle.ac_util.specs.Classes.{SetsApart};
-ghost use Rattle.ac_engines.specs.Classes.{classes_by};
+ghost use Rattle.ac_engines.specs.Listed.{classes_by};
 
 use ac_automaton::nfa::noncontiguous::NFA;
 use ac_util::alphabet::ByteClasses;

@@ -1,6 +1,6 @@
 //! The matches of a trie's states.
 ghost use Rattle.std.specs.Prelude.{Some};
-ghost use Rattle.ac_engines.specs.Nodes.{HasNode, ListsMatches};
+ghost use Rattle.ac_engines.specs.Listed.{HasNode, ListsMatches};
 
 use ac_automaton::automaton::{Automaton, MatchRest, is_due};
 use ac_automaton::nfa::noncontiguous::NFA;

@@ -5,7 +5,7 @@ use Rattle.ac_automaton.specs.Util.{Built, InputView, LiesIn, Occurrence, order_
 use Rattle.ac_util.specs.Walk.{IsAfter}
 use Rattle.ac_util.proofs.Lying.{walk_result-lie}
 use Rattle.ac_util.proofs.Walks.{walk-ordered}
-use Rattle.ac_search.specs.Order.{StandInOrder}
+use Rattle.ac_search.specs.Alike.{StandInOrder}
 
 -- matches that lie in the haystack, that are each after those before, and that start no earlier than low
 stand : (built : Built) (input : InputView) (low : ℕ) (ms : List Occurrence) → All (LiesIn built input) ms

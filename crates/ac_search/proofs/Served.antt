@@ -7,10 +7,7 @@ use Rattle.ac_automaton.specs.Overlaps.{GivesNext}
 use Rattle.ac_automaton.specs.Streams.{Streaming, initial_stream}
 use Rattle.ac_search.specs.declared.ahocorasick.engine.Engine.{Engine}
 use Rattle.ac_search.specs.Engines.{built_of, searcher_of, states_of, Supports}
-use Rattle.ac_search.specs.Places.{GivesItem}
-use Rattle.ac_search.specs.Searchers.{Searcher}
-use Rattle.ac_search.specs.States.{listed_in, stands_in}
-use Rattle.ac_search.specs.StreamsBegun.{HasBegun}
+use Rattle.ac_search.specs.Searchers.{GivesItem, Searcher, listed_in, stands_in, HasBegun}
 
 -- a find or a walk is refused for its start alone
 find-refusal : (built : Built) (input : InputView)

@@ -7,11 +7,11 @@ use Rattle.ac_automaton.specs.Util.{Built, Reading, Occurrence, Standard, StartK
 use Rattle.ac_util.specs.declared.search.MatchKind.{MatchKind}
 use Rattle.ac_util.specs.declared.error.StreamError.{StreamError}
 use Rattle.ac_util.specs.declared.error.StreamError.TheVariants.{Io}
-use Rattle.ac_util.specs.StreamReplacing.{IsSettledBy}
+use Rattle.ac_util.specs.Stream.{IsSettledBy}
 use Rattle.ac_automaton.specs.declared.automaton.stream_settled.Phase.{Phase}
 use Rattle.ac_automaton.specs.declared.automaton.stream_settled.Phase.TheVariants.{Ended, Failed, Open}
 use Rattle.ac_automaton.specs.Streams.{GivesError, GivesNextMatch, GivesNone, GoesOnBy, Streaming}
-use Rattle.ac_search.specs.StreamsBegun.{HasBegun}
+use Rattle.ac_search.specs.Searchers.{HasBegun}
 
 -- a stream goes on by these bytes of its reader
 pub record IsCounting (built : Built) (v : Streaming) (first now : Reading) : Type 0 where

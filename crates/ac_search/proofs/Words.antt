@@ -5,8 +5,8 @@ use Rattle.std.specs.Str.{IsUtf8}
 use Rattle.std.proofs.lemmas.Str.{IsUtf8-from_ascii}
 use Rattle.std.proofs.lemmas.Str.Ascii.{IsAscii-from_all}
 use Rattle.std.proofs.lemmas.List.Elements.{All-cons, All-nil}
-use Rattle.ac_search.specs.Texts.{AreTexts}
-use Rattle.ac_search.specs.Words.{AreAscii, AreWords}
+use Rattle.ac_search.specs.Built.{AreTexts}
+use Rattle.ac_search.specs.Alike.{AreAscii, AreWords}
 
 -- each byte of an ASCII string is below 128
 all_ascii : (bs : List ℕ) → AreAscii bs → All (λ b. b < 128) bs

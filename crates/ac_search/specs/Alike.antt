@@ -1,8 +1,8 @@
--- Searchers that give the same answers: what they were built from is called one and other.
-use Rattle.std.specs.Prelude.{◌≡◌, ℕ, List}
-use Rattle.ac_automaton.specs.Util.{all, Built, exchanged, exchanged_in_text, find_refusal, find_result, InputView, IsSettledBy, kept_back_len, MatchKind, overlapping_iter_refusal, overlapping_refusal, replace_refusal, search_in, StartKind, stream_refusal, stream_result}
-use Rattle.ac_search.specs.Searchers.{IsBuilt, Searcher, Settings}
-use Rattle.ac_search.specs.StreamsBegun.{starting_by}
+-- How answers of several settings, engines and spans agree, and in what order matches come.
+use Rattle.std.specs.Prelude.{◌≡◌, ℕ, List, ◌<◌, Err, None, Option, Result, Some, ◌+◌, ◌-◌, ◌≤◌, IfSome, length, [], ◌∷◌, ⊤}
+use Rattle.ac_automaton.specs.Util.{all, Built, exchanged, exchanged_in_text, find_refusal, find_result, InputView, IsSettledBy, kept_back_len, MatchKind, overlapping_iter_refusal, overlapping_refusal, replace_refusal, search_in, StartKind, stream_refusal, stream_result, IsBetweenCharacters, Occurrence, Occurs, walk_result}
+use Rattle.ac_search.specs.Searchers.{IsBuilt, Searcher, Settings, starting_by}
+use Rattle.std.specs.List.{AllByRecursion}
 
 -- every find is refused alike, and returns the same
 abbrev pub FindAlike : Built → Built → Type 0
@@ -43,3 +43,68 @@ BuildAlike one other =
     (patterns : List (List ℕ)) (s t : Searcher) → IsBuilt one patterns s → IsBuilt other patterns t
     → one.engine.kind ≡ other.engine.kind → one.engine.ignores_case ≡ other.engine.ignores_case
     → one.start_kind ≡ other.start_kind → s.built ≡ t.built
+
+-- once it has returned None, it keeps returning it
+abbrev pub StaysEnded : {S I : Type 0} → (S → Option I → S → Type 0) → Type 0
+StaysEnded {S} {I} Gives = (s t u : S) (again : Option I) → Gives s None t → Gives t again u → again ≡ None
+
+-- once it has returned an error, it returns None
+abbrev pub EndsAtError : {S I E : Type 0} → (S → Option (Result I E) → S → Type 0) → Type 0
+EndsAtError {S} {I} {E} Gives =
+    (s t u : S) (e : E) (again : Option (Result I E)) → Gives s (Some (Err e)) t → Gives t again u → again ≡ None
+
+-- each item leaves less of what is left
+abbrev pub LeavesLess : {S I : Type 0} → (S → ℕ) → (S → Option I → S → Type 0) → Type 0
+LeavesLess {S} {I} left Gives = (s t : S) (item : I) → Gives s (Some item) t → left t < left s
+
+-- some pattern occurs in the span
+abbrev pub SomeOccurs : Built → InputView → Type 0
+SomeOccurs built input = (m : Occurrence) × Occurs (search_in built input) m
+
+-- each match that a find returns has the property
+abbrev pub FindsOnly : (Built → InputView → Occurrence → Type 0) → Built → InputView → Type 0
+FindsOnly Property built input = IfSome (find_result built input) (Property built input)
+
+-- each match of a walk has it
+abbrev pub WalksOnly : (Built → InputView → Occurrence → Type 0) → Built → InputView → Type 0
+WalksOnly Property built input = AllByRecursion (Property built input) (walk_result built input)
+
+-- each item of the listing has it
+abbrev pub ListsOnly : (Built → InputView → Occurrence → Type 0) → Built → InputView → Type 0
+ListsOnly Property built input = AllByRecursion (Property built input) (all (search_in built input))
+
+-- the match ends in the haystack
+abbrev pub EndsInside : Built → InputView → Occurrence → Type 0
+EndsInside built input m = m.end ≤ length input.haystack
+
+-- the number of its pattern is less than a count
+abbrev pub IsNumberedBelow : ℕ → Built → InputView → Occurrence → Type 0
+IsNumberedBelow count built input m = m.pattern < count
+
+-- it starts and ends between characters of the haystack
+abbrev pub StandsBetweenCharacters : Built → InputView → Occurrence → Type 0
+StandsBetweenCharacters built input m = IsBetweenCharacters input.haystack m
+
+-- a walk has at most one match more than the span has bytes
+abbrev pub WalksFew : Built → InputView → Type 0
+WalksFew built input = length (walk_result built input) ≤ input.end + 1 - input.start
+
+-- the first match starts no earlier than low, each other one no earlier than the one before it ends, and none ends past high
+abbrev pub StandInOrder : ℕ → ℕ → List Occurrence → Type 0
+StandInOrder low high [] = ⊤
+StandInOrder low high (m ∷ ms) = (low ≤ m.start) × (m.start ≤ m.end) × (m.end ≤ high) × StandInOrder m.end high ms
+
+-- the matches of a walk do so, in the input's span and so in the haystack
+abbrev pub WalksInOrder : Built → InputView → Type 0
+WalksInOrder built input = StandInOrder input.start (length input.haystack) (walk_result built input)
+
+-- each byte is ASCII
+abbrev pub AreAscii : List ℕ → Type 0
+AreAscii [] = Unit {0}
+AreAscii (b ∷ bs) = (b < 128) × AreAscii bs
+
+-- each pattern is ASCII, and none is empty
+abbrev pub AreWords : List (List ℕ) → Type 0
+AreWords [] = Unit {0}
+AreWords ([] ∷ ps) = ⊥
+AreWords ((b ∷ bs) ∷ ps) = AreAscii (b ∷ bs) × AreWords ps

@@ -13,8 +13,7 @@ use Rattle.ac_search.specs.declared.ahocorasick.engine.EngineFindOverlappingIter
 use Rattle.ac_search.specs.declared.ahocorasick.engine.EngineFindOverlappingIter.TheVariants.{Contiguous as ListedByContiguous, Dfa as ListedByDfa, Noncontiguous as ListedByNoncontiguous}
 use Rattle.ac_search.specs.declared.ahocorasick.engine.EngineStreamFinder.{EngineStreamFinder}
 use Rattle.ac_search.specs.declared.ahocorasick.engine.EngineStreamFinder.TheVariants.{Contiguous as StreamedByContiguous, Dfa as StreamedByDfa, Noncontiguous as StreamedByNoncontiguous}
-use Rattle.ac_search.specs.Searchers.{AreLaidOut, Searcher, Settings, size_refusal}
-use Rattle.ac_search.specs.States.{States, Contiguous as OfContiguous, Dfa as OfDfa, Noncontiguous as OfTrie}
+use Rattle.ac_search.specs.Searchers.{AreLaidOut, Searcher, Settings, size_refusal, States, Contiguous as OfContiguous, Dfa as OfDfa, Noncontiguous as OfTrie}
 
 -- what an engine was built from, whether to have a prefilter, its name and its states
 abbrev pub built_of : {Z : Type 0} → Engine Z → Built

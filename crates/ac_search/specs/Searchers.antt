@@ -1,15 +1,38 @@
 -- What is seen of a searcher: what it was built from, whether to have a prefilter, and the name and the states of
 -- its engine. No answer of a search depends on the last three; an overlapping state is one for these states alone.
-use Rattle.std.specs.Prelude.{◌≡◌, ℕ, nat_le, Bool, false, true, List, length, Option, None, Result, Some, ⊤, ◌&&◌, if◌then◌else◌}
-use Rattle.ac_automaton.specs.Util.{AnswersUnless, Both, BuildError, Built, find_refusal, InputView, MatchError, overlapping_iter_refusal, StartKind, Unanchored}
-use Rattle.ac_util.specs.declared.search.StartKind.TheVariants.{Anchored}
+use Rattle.std.specs.Prelude.{ℕ, List, ◌≡◌, nat_le, Bool, false, true, length, Option, None, Result, Some, ⊤, ◌&&◌, if◌then◌else◌, MatchResult}
+use Rattle.ac_util.specs.declared.search.Anchored.{Anchored}
+use Rattle.ac_util.specs.Node.{Node}
+use Rattle.ac_automaton.specs.Tries.{IsTrieState, Trie, listed_within}
+use Rattle.ac_engines.specs.Prelude.{ContiguousView, DfaView, IsContiguousState, IsDfaState, list_at, match_list_at, contiguous_refusal, dfa_refusal, IsContiguousFrom, IsDfaFrom}
+use Rattle.ac_automaton.specs.Util.{AnswersUnless, Both, BuildError, Built, find_refusal, InputView, MatchError, overlapping_iter_refusal, StartKind, Unanchored, Reading, item_at, Occurrence, overlapping_refusal, place_after, search_in}
+use Rattle.ac_util.specs.declared.search.StartKind.TheVariants.{Anchored as AnchoredAlone}
 use Rattle.ac_automaton.specs.Builds.{AnswersBuild, EngineSettings, IsAllowed, engine_built_by, fits, refusal_or, state_refusal, usual_engine_settings}
 use Rattle.ac_automaton.specs.Iterators.{Walking, initial_walk}
-use Rattle.ac_automaton.specs.Overlaps.{Overlapping, initial_listing}
-use Rattle.ac_engines.specs.Prelude.{contiguous_refusal, dfa_refusal, IsContiguousFrom, IsDfaFrom}
+use Rattle.ac_automaton.specs.Overlaps.{Overlapping, initial_listing, GivesNext}
 use Rattle.ac_search.specs.declared.ahocorasick.choice.AhoCorasickKind.{AhoCorasickKind}
 use Rattle.ac_search.specs.declared.ahocorasick.choice.AhoCorasickKind.TheVariants.{ContiguousNFA, DFA, NoncontiguousNFA}
-use Rattle.ac_search.specs.States.{States, Contiguous, Dfa, Noncontiguous}
+use Rattle.ac_automaton.specs.Streams.{StreamReading, Streaming, initial_stream}
+use Rattle.ac_automaton.specs.declared.automaton.overlap.OverlappingState.{OverlappingState}
+use Rattle.ac_automaton.specs.Prelude.{IsPlaced, place_by}
+
+-- those of each engine
+pub data States : Type 0 where
+  Noncontiguous : Trie → States
+  Contiguous : ContiguousView → States
+  Dfa : DfaView → States
+
+-- the node for which a state stands
+abbrev pub stands_in : States → Anchored → ℕ → Node → Type 0
+stands_in (Noncontiguous trie) anchored s u = IsTrieState trie s u
+stands_in (Contiguous nfa) anchored s u = IsContiguousState nfa anchored s u
+stands_in (Dfa dfa) anchored s u = IsDfaState dfa anchored s u
+
+-- and its match list
+abbrev pub listed_in : States → ℕ → List ℕ
+listed_in (Noncontiguous trie) s = listed_within trie.order trie.states s s
+listed_in (Contiguous nfa) s = match_list_at nfa s
+listed_in (Dfa dfa) s = list_at dfa s
 
 pub record Searcher : Type 0 where
   pub built : Built
@@ -53,7 +76,7 @@ most_for_dfa = 100
 abbrev pub suits_dfa : StartKind → ℕ → Bool
 suits_dfa Both count = false
 suits_dfa Unanchored count = nat_le count most_for_dfa
-suits_dfa Anchored count = nat_le count most_for_dfa
+suits_dfa AnchoredAlone count = nat_le count most_for_dfa
 
 -- where no engine was named: the DFA where it suits and fits, else the contiguous NFA where it fits, else the
 -- noncontiguous one
@@ -132,3 +155,49 @@ BeginsListing searcher input result =
 abbrev pub BuildsSearcher : Settings → List (List ℕ) → Result Searcher BuildError → Type 0
 BuildsSearcher settings patterns result =
     AnswersBuild (IsBuilt settings) (engine_refusal settings) patterns result
+
+-- what was built, with these starts
+abbrev pub starting_by : Built → StartKind → Built
+starting_by built start = record built { start_kind = start }
+
+-- it is one of which nothing was read, for what the searcher was built from; but its engine may have more starts
+abbrev pub HasBegun : Built → Streaming → Type 0
+HasBegun built stream = (start : StartKind) × (stream ≡ initial_stream (starting_by built start))
+
+-- an iterator begins with one, over what its reader has left
+abbrev pub HasBegunOver : Built → Reading → StreamReading → Type 0
+HasBegunOver built reader matches =
+    (start : StartKind)
+    × (matches ≡ record { stream = initial_stream (starting_by built start); reader = reader })
+
+-- a state stands for a place of the listing of an input by a searcher: it is fresh, or a call over these has left it
+abbrev pub HasPlace : Searcher → InputView → OverlappingState → Type 0
+HasPlace searcher input state =
+    IsPlaced (stands_in searcher.states input.anchored) (listed_in searcher.states) searcher.built.kind
+    (search_in searcher.built input) state
+
+-- how many items of that listing were given
+abbrev pub rank_in : Searcher → InputView → OverlappingState → ℕ
+rank_in searcher input state = place_by (listed_in searcher.states) (search_in searcher.built input) state
+
+-- a call has given the next item of the listing, or none past its end, and the state stands for the place after it
+abbrev pub GivesItem : Searcher → InputView → OverlappingState → OverlappingState → Type 0
+GivesItem searcher input state new_state =
+    GivesNext (stands_in searcher.states input.anchored) (listed_in searcher.states) searcher.built.kind
+    (search_in searcher.built input) state new_state
+
+-- a call has done so; or it is refused, and the state is as it was
+abbrev pub FindsItem : Searcher → InputView → OverlappingState → Result (Unit {0}) MatchError → OverlappingState → Type 0
+FindsItem searcher input state result new_state =
+    MatchResult result
+    (λ done. (overlapping_refusal searcher.built input ≡ None) × GivesItem searcher input state new_state)
+    (λ e. (overlapping_refusal searcher.built input ≡ Some e) × (new_state ≡ state))
+
+-- the item of the listing that comes next, or None past its end
+abbrev pub next_item : Searcher → InputView → OverlappingState → Option Occurrence
+next_item searcher input state = item_at (search_in searcher.built input) (rank_in searcher input state)
+
+-- a state stands for the place after another's
+abbrev pub IsNextPlace : Searcher → InputView → OverlappingState → OverlappingState → Type 0
+IsNextPlace searcher input state new_state =
+    rank_in searcher input new_state ≡ place_after (search_in searcher.built input) (rank_in searcher input state)

@@ -6,12 +6,8 @@ ghost use Rattle.ac_automaton.specs.Util.{AreTexts, InputView, input_of, Built, 
 ghost use Rattle.ac_automaton.specs.Iterators.{GoesOn};
 ghost use Rattle.ac_automaton.specs.Overlaps.{ListsNext};
 ghost use Rattle.ac_automaton.specs.Streams.{GivesStreamItem, items_left};
-ghost use Rattle.ac_search.specs.Alike.{BuildAlike, FindAlike, ListAlike, ReplaceAlike, SettlesAlike, StreamAlike};
-ghost use Rattle.ac_search.specs.Ending.{EndsAtError, LeavesLess, StaysEnded};
-ghost use Rattle.ac_search.specs.Only.{EndsInside, FindsOnly, IsNumberedBelow, ListsOnly, SomeOccurs, StandsBetweenCharacters, WalksFew, WalksOnly};
-ghost use Rattle.ac_search.specs.Order.{WalksInOrder};
+ghost use Rattle.ac_search.specs.Alike.{BuildAlike, FindAlike, ListAlike, ReplaceAlike, SettlesAlike, StreamAlike, EndsAtError, LeavesLess, StaysEnded, EndsInside, FindsOnly, IsNumberedBelow, ListsOnly, SomeOccurs, StandsBetweenCharacters, WalksFew, WalksOnly, WalksInOrder, AreWords};
 ghost use Rattle.ac_search.specs.Searchers.{Settings};
-ghost use Rattle.ac_search.specs.Words.{AreWords};
 ghost use Rattle.ac_search.specs.declared.ahocorasick.choice.AhoCorasickKind.{AhoCorasickKind};
 ghost use Rattle.ac_engines.specs.declared.nfa.contiguous.format.Format.{Format};
 

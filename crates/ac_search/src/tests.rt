@@ -1,8 +1,7 @@
 ghost use Rattle.std.specs.Prelude.{◌≡◌, None, length};
 ghost use Rattle.std.specs.Iterator.{IsFinite};
-ghost use Rattle.ac_search.specs.Built.{find_refusal, walk_result};
-ghost use Rattle.ac_search.specs.InputView.{whole_input};
-ghost use Rattle.ac_search.specs.Texts.{AreTexts};
+ghost use Rattle.ac_search.specs.Built.{find_refusal, walk_result, AreTexts};
+ghost use Rattle.ac_search.specs.Input.{whole_input};
 
 use crate::MatchKind::{LeftmostFirst, LeftmostLongest, Standard};
 use crate::StartKind::{Both, Unanchored};

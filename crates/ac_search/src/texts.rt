@@ -1,6 +1,6 @@
 //! Patterns from texts.
 ghost use Rattle.std.specs.Prelude.{◌≡◌, IfOk};
-ghost use Rattle.ac_util.specs.Borrowed.{bytes_of};
+ghost use Rattle.ac_util.specs.Patterns.{bytes_of};
 
 use std::alloc::{AllocError, Allocator};
 

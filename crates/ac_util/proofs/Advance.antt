@@ -183,8 +183,15 @@ module _ (kind : MatchKind) (patterns : List (List ℕ)) where
           ∙ begins-from_Prefixes patterns (x ∷ v) n f))
       no_front n f false leftmost (inl e) = false≢true (sym leftmost ∙ e)
       no_front n f false leftmost (inr ends) =
-          search (rules, IsIn-equal_to, Prefixes-equal, all_take_part, none-from_nil,
-            all_take_part patterns kind leftmost n, Prefixes-equal patterns (x ∷ v) n f (omega arith))
+          search (
+            rules,
+            IsIn-equal_to,
+            Prefixes-equal,
+            all_take_part,
+            none-from_nil,
+            all_take_part patterns kind leftmost n,
+            Prefixes-equal patterns (x ∷ v) n f (omega arith),
+          )
 
       counts_behind : (n s : ℕ) → Counts (x ∷ v) n (suc s) → Counts v n s
       counts_behind n s (inl e) = inl e
@@ -245,8 +252,18 @@ module _ (kind : MatchKind) (patterns : List (List ℕ)) where
   pub start-stays : (anchored : Anchored) → matches kind patterns anchored (Some []) ≡ [] → (n s : ℕ)
       → ¬ Stands patterns anchored [] n s
   start-stays anchored none n s h =
-      search (rules, IsIn-equal_to, Prefixes-equal, Prefixes-length, matches-nil, none-from_nil, preferred,
-        start_stands, start_stands anchored n s h, matches-nil kind patterns)
+      search (
+        rules,
+        IsIn-equal_to,
+        Prefixes-equal,
+        Prefixes-length,
+        matches-nil,
+        none-from_nil,
+        preferred,
+        start_stands,
+        start_stands anchored n s h,
+        matches-nil kind patterns,
+      )
 
   -- nothing ends before the start, so under each order its head is the pick of the empty text
   pub start-becomes : (order : MatchKind) (anchored : Anchored) (i k : ℕ) → IsHead anchored [] i k

@@ -47,10 +47,13 @@ module _ (kind : MatchKind) (patterns : List (List ℕ)) where
   step-free_alike : (a b : ℕ) → EndsNone a → EndsNone b → (u : List ℕ)
       → step kind patterns No (Some u) a ≡ step kind patterns No (Some u) b
   step-free_alike a b no_a no_b [] =
-      grind (arith, common_steps,
+      grind (
+        arith,
+        common_steps,
         cond-false (is_node kind patterns (a ∷ [])) (Some (a ∷ [])) (cond (stops kind patterns []) None (Some [])) (no_a []),
         stops kind patterns [],
-        cond-false (is_node kind patterns (b ∷ [])) (Some (b ∷ [])) (cond (stops kind patterns []) None (Some [])) (no_b []))
+        cond-false (is_node kind patterns (b ∷ [])) (Some (b ∷ [])) (cond (stops kind patterns []) None (Some [])) (no_b []),
+      )
   step-free_alike a b no_a no_b (x ∷ u) = search (rules, step-cons, cond-false, step-free_alike a b no_a no_b u)
 
   -- and so they do from each node

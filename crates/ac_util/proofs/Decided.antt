@@ -5,7 +5,7 @@ use Rattle.std.proofs.Math.Seq.{drop-append_seam, take-append_seam, take-take}
 use Rattle.std.proofs.lemmas.List.{append-nil, get_or-map, length-map, take-append-drop, take-map}
 use Rattle.std.proofs.lemmas.List.Elements.{All-nil}
 use Rattle.std.proofs.lemmas.Grind.{common_steps}
-use Rattle.ac_util.specs.Prelude.{AreDecided, whole_input, Built, from, is_leftmost, IsFirst, IsOpen, IsPick, IsSettledAt, last_end, LeftmostFirst, LeftmostLongest, MatchKind, next_match, NoneOpen, Occurrence, occurrence, Occurs, participates, pattern_of, pick, plain, plain_byte, Search, search_in, Standard, stream_result, walk_after}
+use Rattle.ac_util.specs.Prelude.{AreDecided, Built, from, is_leftmost, IsFirst, IsOpen, IsPick, IsSettledAt, last_end, LeftmostFirst, LeftmostLongest, MatchKind, next_match, NoneOpen, Occurrence, occurrence, Occurs, participates, pattern_of, pick, plain, Search, Standard, stream_result, walk_after}
 use Rattle.ac_util.proofs.Participants.{participant-least}
 use Rattle.ac_util.proofs.Picks.{pick-IsPick}
 use Rattle.ac_util.proofs.Prefixes.{starts_with-take}

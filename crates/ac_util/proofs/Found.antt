@@ -90,9 +90,16 @@ module _ (kind : MatchKind) (patterns : List (List ℕ)) where
       → IsIn n (own u)
   matches-whole [] n h l = rw matches-nil at h
   matches-whole (x ∷ u) n h l =
-      search (rules, IsIn-append_cases, matches-cons, matches-fits, stops,
+      search (
+        rules,
+        IsIn-append_cases,
+        matches-cons,
+        matches-fits,
+        stops,
         IsIn-append_cases n (own (x ∷ u)) (cond (stops kind patterns (x ∷ u)) [] (found (Some u))) (rw (matches-cons x u) at h),
-        stops kind patterns (x ∷ u), matches-cons x u)
+        stops kind patterns (x ∷ u),
+        matches-cons x u,
+      )
 
   -- and those after the ones that equal the string are shorter than it
   pub matches-shorter : (u beyond : List ℕ) → found (Some u) ≡ own u ++ beyond → (n : ℕ) → IsIn n beyond

@@ -1,6 +1,6 @@
 -- A list of patterns that isn't refused is within the limits, and one that is too long is found by going along
 -- the list.
-use Rattle.std.proofs.Common.{◌≡◌, ℕ, zero, suc, ◌+◌, ◌<◌, ◌≤◌, Bool, true, false, cond, List, [], ◌∷◌, length, drop, get_or, refl, arith, Option, Some, None, nat_lt, All, slice_get, MatchOption, Result, Ok, Err, rules}
+use Rattle.std.proofs.Common.{◌≡◌, ℕ, zero, suc, ◌+◌, ◌<◌, ◌≤◌, List, [], ◌∷◌, length, drop, get_or, refl, arith, Option, Some, None, All, slice_get, MatchOption, Result, Ok, Err, rules}
 use Rattle.std.proofs.lemmas.Option.{slice_get_cases}
 use Rattle.std.proofs.lemmas.Bool.{ltb-false}
 use Rattle.std.proofs.lemmas.List.Elements.{All-cons, All-nil}

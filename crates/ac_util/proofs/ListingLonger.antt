@@ -118,9 +118,20 @@ module _ (q : Search) (order : q.low ≤ q.high) (inside : q.high ≤ length q.h
   -- the matches found at the end of the span are the occurrences that end there
   has_ending : (m : Occurrence) → Occurs q m → m.end ≡ q.high → IsIn m at_end
   has_ending m o e =
-      search (rules, IsIn-map, Stands-from_Occurs, in_found, pattern_length, same_occurrence, text_is, text_length,
-        text_length q order, pattern_length q order, Stands-from_Occurs q order,
-        same_occurrence (ending q m.pattern) m refl (omega arith) (sym e))
+      search (
+        rules,
+        IsIn-map,
+        Stands-from_Occurs,
+        in_found,
+        pattern_length,
+        same_occurrence,
+        text_is,
+        text_length,
+        text_length q order,
+        pattern_length q order,
+        Stands-from_Occurs q order,
+        same_occurrence (ending q m.pattern) m refl (omega arith) (sym e),
+      )
 
   occurs_ending : (n : ℕ) → IsIn n (found_at_end Standard q) → Occurs q (ending q n)
   occurs_ending n h =

@@ -45,8 +45,18 @@ module _ (kind : MatchKind) (q : Search) (order : q.low ≤ q.high) (room : q.hi
   -- the pick stays where the node reached has no match
   pub pick-longer_stays : found_at_end kind (one_longer q) ≡ [] → pick kind (one_longer q) ≡ pick kind q
   pick-longer_stays none =
-      search (rules, inward, longer, now-text, pick-in_text, pick-out_again, pick-stays, inward q.low,
-        pick-in_text q order (omega arith) kind, pick-out_again q order (omega arith) kind)
+      search (
+        rules,
+        inward,
+        longer,
+        now-text,
+        pick-in_text,
+        pick-out_again,
+        pick-stays,
+        inward q.low,
+        pick-in_text q order (omega arith) kind,
+        pick-out_again q order (omega arith) kind,
+      )
 
   longer_head : (i : ℕ) (rest : List ℕ) → found_at_end kind (one_longer q) ≡ i ∷ rest
       → (k : ℕ) × IsHead kind (plain_patterns q) q.anchored (text q ++ byte_in q ∷ []) i k
@@ -148,9 +158,14 @@ module _ (kind : MatchKind) (q : Search) (order : q.low ≤ q.high)
   pub pick-dead : (n : ℕ) → q.high + n ≤ length q.haystack → pick kind (longer_by q n) ≡ pick kind q
   pick-dead zero room = ap (λ (h : ℕ). pick kind (record q { high = h })) (omega arith)
   pick-dead (suc n) room =
-      grind (arith, common_steps,
+      grind (
+        arith,
+        common_steps,
         pick-longer_stays kind (longer_by q n) (omega arith) (omega arith) (sym (ap (found_at_end kind) (longer-suc q n)) ∙ nothing_found (suc n) room),
-        longer-suc q n, nothing_found (suc n) room, pick-dead n (omega arith))
+        longer-suc q n,
+        nothing_found (suc n) room,
+        pick-dead n (omega arith),
+      )
 
   -- and where Standard picked nothing it stays so
   pub first-dead : pick Standard q ≡ None → (n : ℕ) → q.high + n ≤ length q.haystack

@@ -4,10 +4,9 @@ use Rattle.std.proofs.Math.Seq.{take-add, take-append_seam}
 use Rattle.std.proofs.lemmas.List.{drop-drop, drop-take, drop_all, take-append-drop, take_all}
 use Rattle.std.proofs.lemmas.Grind.{common_steps}
 use Rattle.ac_util.specs.Prelude.{Built, IsSettledAt, kept_back_len, last_end, LeftmostFirst, LeftmostLongest, MatchKind, Occurrence, replaced, replaced_from, Standard, stream_result, without_last}
-use Rattle.ac_util.specs.Replaced.{StartFrom}
-use Rattle.ac_util.specs.StreamReplacing.{IsSettledBy, settled}
+use Rattle.ac_util.specs.Replacement.{StartFrom}
+use Rattle.ac_util.specs.Stream.{IsSettledBy, settled}
 use Rattle.ac_util.proofs.Exchanges.{AreInOrder, exchanged-in_order}
-use Rattle.ac_util.proofs.PiecesLemmas.{slice_range-append}
 
 -- a part of a list and then the next are a part
 pub part-join : {X : Type 0} (xs : List X) (a b c : ℕ) → a ≤ b → b ≤ c
@@ -24,8 +23,12 @@ replaced-cut haystack texts many place end [] [] order starts within = grind (ar
 replaced-cut haystack texts many place end [] (n ∷ others) order starts within =
     grind (arith, common_steps, part-join haystack place end n.start order starts, drop-take place (end - place) haystack)
 replaced-cut haystack texts many place end (m ∷ ms) others order starts within =
-    grind (arith, common_steps, take-append-drop end haystack,
-      replaced-cut haystack texts many m.end end ms others order.4 starts within)
+    grind (
+      arith,
+      common_steps,
+      take-append-drop end haystack,
+      replaced-cut haystack texts many m.end end ms others order.4 starts within,
+    )
 
 -- the first of matches in order are in order
 order-front : (bytes many place : ℕ) (ms others : List Occurrence) → AreInOrder bytes many place (ms ++ others)

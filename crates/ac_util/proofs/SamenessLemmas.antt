@@ -2,7 +2,7 @@
 use Rattle.std.proofs.Common.{◌≡◌, ℕ, suc, ◌<◌, Bool, true, false, List, [], ◌∷◌, length, get_or, refl, ap, sym, ◌∙◌, arith, rules}
 use Rattle.std.proofs.lemmas.Bool.{eqb-true, eq-eqb}
 use Rattle.std.proofs.lemmas.List.{length-map, get_or-map, map-id}
-use Rattle.ac_util.specs.Sameness.{plain_byte, same_byte, IsSame}
+use Rattle.ac_util.specs.Occurrence.{plain_byte, same_byte, IsSame}
 
 -- strings that are the same have one length
 pub IsSame-length : (ignores_case : Bool) (s t : List ℕ) → IsSame ignores_case s t → length s ≡ length t

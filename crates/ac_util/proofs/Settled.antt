@@ -1,5 +1,5 @@
 -- A stream under a leftmost kind: the matches that are decided stay as more of it comes, and no other starts before them.
-use Rattle.std.proofs.Common.{◌≡◌, ℕ, ◌+◌, ◌-◌, ◌<◌, ◌≤◌, true, List, [], ◌∷◌, ◌++◌, length, get_or, length-drop, take, drop, inl, inr, refl, ap, sym, ◌∙◌, subst, arith, Option, None, Some, All, nat_eq, slice_range, rules}
+use Rattle.std.proofs.Common.{◌≡◌, ℕ, ◌+◌, ◌-◌, ◌<◌, ◌≤◌, true, List, [], ◌∷◌, ◌++◌, length, get_or, take, drop, inl, inr, refl, ap, sym, ◌∙◌, subst, arith, Option, None, Some, All, nat_eq, slice_range, rules}
 use Rattle.std.specs.List.{starts_with}
 use Rattle.std.proofs.Math.Seq.{take-append_seam, take-take}
 use Rattle.std.proofs.lemmas.Bool.{cases_lt, false_from_ne_true}

@@ -3,7 +3,7 @@ use Rattle.std.specs.Prelude.{◌≡◌, ℕ, zero, suc, ◌+◌, ◌^◌, ◌<�
 use Rattle.std.specs.List.{range_with_len, list_any}
 use Rattle.ac_util.specs.declared.search.MatchKind.{MatchKind}
 use Rattle.ac_util.specs.declared.search.Anchored.{Anchored}
-use Rattle.ac_util.specs.Sameness.{plain_byte, plain, same_byte}
+use Rattle.ac_util.specs.Occurrence.{plain_byte, plain, same_byte}
 use Rattle.ac_util.specs.Node.{Node, is_node, step}
 
 -- u is a node of the automaton

@@ -4,7 +4,7 @@ use Rattle.std.specs.Io.{StartsWith}
 use Rattle.std.specs.Io.KnownBytes.{Consumes, IsAtEnd, Appends}
 use Rattle.ac_util.specs.declared.device.WriteError.{WriteError}
 use Rattle.ac_util.specs.declared.device.WriteError.TheVariants.{Io, WriteZero}
-use Rattle.ac_util.specs.Sizes.{usize_max}
+use Rattle.ac_util.specs.Patterns.{usize_max}
 
 -- the bytes that a reader has left, if it reports them; how many of its calls failed; and how many reads into a
 -- slice that isn't empty gave no byte

@@ -5,22 +5,15 @@ use Rattle.std.specs.Str.{IsUtf8}
 use Rattle.std.specs.declared.alloc.AllocError.{AllocError}
 use Rattle.ac_util.specs.declared.search.MatchKind.{MatchKind}
 use Rattle.ac_util.specs.declared.search.MatchKind.TheVariants.{Standard}
-use Rattle.ac_util.specs.Built.{Built, has_empty, search_in}
+use Rattle.ac_util.specs.Built.{Built, has_empty, search_in, LiesIn, AreTexts, IsBetweenCharacters}
 use Rattle.ac_util.specs.Classes.{AreClasses, IsLawful, SetsApart, class_at, is_in_patterns}
-use Rattle.ac_util.specs.InputView.{InputView, whole_input}
-use Rattle.ac_util.specs.Inside.{LiesIn}
+use Rattle.ac_util.specs.Input.{InputView, whole_input}
 use Rattle.ac_util.specs.Listing.{all, place_after}
 use Rattle.ac_util.specs.Node.{is_leftmost, is_node}
-use Rattle.ac_util.specs.Occurrence.{Occurrence}
+use Rattle.ac_util.specs.Occurrence.{Occurrence, plain, plain_byte, same_byte, Search, from, pattern_of}
 use Rattle.ac_util.specs.Pick.{pick}
-use Rattle.ac_util.specs.Replaced.{replaced}
-use Rattle.ac_util.specs.Replacement.{AppendsBeginning, Replacing, ReplacementSteps, WritesText, answer_of}
-use Rattle.ac_util.specs.Sameness.{plain, plain_byte, same_byte}
-use Rattle.ac_util.specs.Search.{Search, from, pattern_of}
-use Rattle.ac_util.specs.Settled.{IsSettledAt, NoneOpen}
-use Rattle.ac_util.specs.Stream.{kept_back_len, stream_result, without_last}
-use Rattle.ac_util.specs.StreamReplacing.{IsSettledBy}
-use Rattle.ac_util.specs.Texts.{AreTexts, IsBetweenCharacters}
+use Rattle.ac_util.specs.Replacement.{replaced, AppendsBeginning, Replacing, ReplacementSteps, WritesText, answer_of}
+use Rattle.ac_util.specs.Stream.{IsSettledAt, NoneOpen, kept_back_len, stream_result, without_last, IsSettledBy}
 use Rattle.ac_util.specs.Walk.{next_match, walk, walk_after}
 
 -- a test is true exactly where its fact holds

@@ -1,8 +1,7 @@
 -- All occurrences of a search in one order, as an overlapping search gives them.
 use Rattle.std.specs.Prelude.{◌≡◌, ℕ, ◌+◌, ◌-◌, ◌<◌, ◌≤◌, nat_lt, Option, List, length, map, flat_map, filter, slice_get, if◌then◌else◌}
 use Rattle.std.specs.List.{range_with_len}
-use Rattle.ac_util.specs.Occurrence.{Occurrence, occurrence}
-use Rattle.ac_util.specs.Search.{Search, occurs}
+use Rattle.ac_util.specs.Occurrence.{Occurrence, occurrence, Search, occurs}
 
 -- the numbers from a up to and with b
 abbrev pub up_to : ℕ → ℕ → List ℕ

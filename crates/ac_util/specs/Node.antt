@@ -1,13 +1,11 @@
--- The nodes of an automaton, and the steps between them.
---
--- All patterns and bytes here are plain ones: where case is ignored they were made small before.
-use Rattle.std.specs.Prelude.{ℕ, suc, Bool, true, false, not, ◌||◌, nat_eq, List, [], ◌∷◌, ◌++◌, Option, None, Some, length, take, drop, filter, find, option_map, if◌then◌else◌}
+-- Nodes: the strings for which states stand, how a byte leads on, and what is found there.
+use Rattle.std.specs.Prelude.{ℕ, suc, Bool, true, false, not, ◌||◌, nat_eq, List, [], ◌∷◌, ◌++◌, Option, None, Some, length, take, drop, filter, find, option_map, if◌then◌else◌, flat_map, bytes_eq, zero, ◌==◌, ◌+◌, ◌-◌, map, slice_range}
 use Rattle.std.specs.List.{range_with_len, list_any, starts_with}
 use Rattle.ac_util.specs.declared.search.MatchKind.{MatchKind}
 use Rattle.ac_util.specs.declared.search.MatchKind.TheVariants.{Standard, LeftmostFirst, LeftmostLongest}
 use Rattle.ac_util.specs.declared.search.Anchored.{Anchored}
 use Rattle.ac_util.specs.declared.search.Anchored.TheVariants.{No, Yes}
-use Rattle.ac_util.specs.Search.{pattern_of}
+use Rattle.ac_util.specs.Occurrence.{pattern_of, Occurrence, occurrence, plain, Search}
 
 -- a node is identified by the string that leads to it; None is the dead node, from which nothing is found any more
 abbrev pub Node : Type 0
@@ -97,3 +95,81 @@ step kind patterns Yes (Some u) b = first_node kind patterns ((u ++ b ∷ []) �
 -- too late
 abbrev pub failure : MatchKind → List (List ℕ) → List ℕ → Node
 failure kind patterns u = first_node kind patterns (drop 1 (open_suffixes kind patterns u))
+
+-- the patterns that take part and are this string, by number
+abbrev pub equal_to : MatchKind → List (List ℕ) → List ℕ → List ℕ
+equal_to kind patterns w =
+    filter (λ number. bytes_eq (pattern_of patterns number) w) (participants kind patterns)
+
+-- the patterns that end the node's string, longest first and then by number: under a leftmost kind those of its
+-- first occurrence alone, and in an anchored search those that are the whole string
+abbrev pub matches : MatchKind → List (List ℕ) → Anchored → Node → List ℕ
+matches kind patterns anchored None = []
+matches kind patterns No (Some u) = flat_map (equal_to kind patterns) (open_suffixes kind patterns u)
+matches kind patterns Yes (Some u) = equal_to kind patterns u
+
+-- the patterns that take part, start at a place of the string and end with it
+abbrev pub matches_at : MatchKind → List (List ℕ) → List ℕ → Option ℕ → List ℕ
+matches_at kind patterns u None = []
+matches_at kind patterns u (Some place) = equal_to kind patterns (drop place u)
+
+-- the nodes from this one, of at most n bytes, along the failure targets up to the first with an own transition
+-- by b, that one counted. The start and the dead node have one by every byte. A failure target is shorter than
+-- its node, so n is never too small
+abbrev pub looks_within : MatchKind → List (List ℕ) → ℕ → Node → ℕ → ℕ
+looks_within kind patterns n None b = 1
+looks_within kind patterns n (Some []) b = 1
+looks_within kind patterns zero (Some (x ∷ u)) b = 1
+looks_within kind patterns (suc n) (Some (x ∷ u)) b =
+    elim (is_node kind patterns (x ∷ u ++ b ∷ [])) [
+      | true ↦ 1
+      | false ↦ suc (looks_within kind patterns n (failure kind patterns (x ∷ u)) b)
+    ]
+
+-- the looks of a step by b in an automaton with failure targets; an anchored step follows none
+abbrev pub looks : MatchKind → List (List ℕ) → Anchored → Node → ℕ → ℕ
+looks kind patterns No u b = looks_within kind patterns (depth u) u b
+looks kind patterns Yes u b = 1
+
+-- the looks of a step in an automaton that is allowed `most` of them for each byte: one that is allowed a
+-- single one has no failure targets to follow
+abbrev pub looks_by : ℕ → MatchKind → List (List ℕ) → Anchored → Node → ℕ → ℕ
+looks_by most kind patterns anchored u b = if most == 1 then 1 else looks kind patterns anchored u b
+
+-- what a node's length is worth to a search that is allowed `most` looks for each byte: a look at each of its
+-- failure targets, which are shorter and shorter, unless it is allowed one look and follows none
+abbrev pub credit : ℕ → Node → ℕ
+credit most u = if most == 1 then 0 else depth u
+
+-- the patterns as plain strings
+abbrev pub plain_patterns : Search → List (List ℕ)
+plain_patterns q = map (plain q.ignores_case) q.patterns
+
+-- the bytes of the span as a plain string
+abbrev pub text : Search → List ℕ
+text q = plain q.ignores_case (slice_range q.haystack q.low q.high)
+
+-- the same search in a span that ends one place later
+abbrev pub one_longer : Search → Search
+one_longer q = record q { high = q.high + 1 }
+
+-- the same search in a span that ends n places later
+abbrev pub longer_by : Search → ℕ → Search
+longer_by q n = record q { high = q.high + n }
+
+-- the matches of the node that an automaton of this kind has reached at the end of the span
+abbrev pub found_at_end : MatchKind → Search → List ℕ
+found_at_end kind q =
+    matches kind (plain_patterns q) q.anchored (reached kind (plain_patterns q) q.anchored (text q))
+
+-- the place of a pattern that ends where the span does
+abbrev pub ending : Search → ℕ → Occurrence
+ending q number = occurrence number (q.high - length (pattern_of q.patterns number)) q.high
+
+-- the same search in a haystack of the span's bytes alone
+abbrev pub cut : Search → Search
+cut q = record q { haystack = slice_range q.haystack q.low q.high; low = 0; high = q.high - q.low }
+
+-- an occurrence whose places are counted from `low` on, with places that are counted from the haystack's start
+abbrev pub outward : ℕ → Occurrence → Occurrence
+outward low m = occurrence m.pattern (low + m.start) (low + m.end)

@@ -2,8 +2,7 @@
 use Rattle.std.specs.Prelude.{◌≡◌, ℕ, ◌≤◌, Bool, false, ◌==◌, nat_lt, List, [], ◌∷◌, Option, None, Some, MatchOption, if◌then◌else◌}
 use Rattle.ac_util.specs.declared.search.MatchKind.{MatchKind}
 use Rattle.ac_util.specs.declared.search.MatchKind.TheVariants.{Standard, LeftmostFirst, LeftmostLongest}
-use Rattle.ac_util.specs.Occurrence.{Occurrence}
-use Rattle.ac_util.specs.Search.{Search, Occurs}
+use Rattle.ac_util.specs.Occurrence.{Occurrence, Search, Occurs}
 use Rattle.ac_util.specs.Listing.{all}
 
 -- a ends no later than b; where both end together it starts no later; where they are one place its number is no

@@ -4,8 +4,7 @@ use Rattle.std.specs.declared.alloc.AllocError.{AllocError}
 use Rattle.std.specs.declared.vec.Vec.{Vec}
 use Rattle.ac_util.specs.declared.search.Anchored.{Anchored}
 use Rattle.ac_util.specs.declared.search.Span.{Span}
-use Rattle.ac_util.specs.Occurrence.{Occurrence}
-use Rattle.ac_util.specs.Search.{Search}
+use Rattle.ac_util.specs.Occurrence.{Occurrence, Search}
 
 -- the search for these patterns in a span of a haystack
 abbrev pub search_within : List (List ℕ) → Bool → List ℕ → Anchored → Span → Search

@@ -15,10 +15,8 @@ use Rattle.ac_util.specs.declared.search.MatchKind.TheVariants.{Standard}
 use Rattle.memchr.specs.Find.{IsFirst, Passes}
 use Rattle.ac_util.specs.Classes.{is_in}
 use Rattle.ac_util.specs.Node.{is_empty}
-use Rattle.ac_util.specs.Occurrence.{Occurrence}
+use Rattle.ac_util.specs.Occurrence.{Occurrence, plain_byte, same_byte, Search, Occurs}
 use Rattle.ac_util.specs.Pick.{pick}
-use Rattle.ac_util.specs.Sameness.{plain_byte, same_byte}
-use Rattle.ac_util.specs.Search.{Search, Occurs}
 
 -- a search skips to the first of some bytes, or to the first place of a needle
 pub data Skip : Type 0 where

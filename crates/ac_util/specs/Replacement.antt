@@ -1,9 +1,46 @@
--- Replacement by a closure, as steps that take the closure and its destination from one state to another.
-use Rattle.std.specs.Prelude.{◌≡◌, ◌≢◌, ◌⊎◌, ◌++◌, ℕ, Bool, true, false, List, [], ◌∷◌, Option, None, Some, drop, slice_index_or, slice_range}
+-- Replacement: the text with its matches exchanged, and the steps by which it is written.
+use Rattle.std.specs.Prelude.{ℕ, ◌≤◌, ⊤, Bool, ◌&&◌, ◌||◌, nat_le, nat_lt, List, [], ◌∷◌, ◌++◌, length, drop, filter, slice_range, slice_index, slice_index_or, ◌≡◌, ◌≢◌, ◌⊎◌, true, false, Option, None, Some, Result, MatchResult}
+use Rattle.ac_util.specs.Occurrence.{Occurrence}
 use Rattle.std.specs.Borrow.{Bor, MutBor}
 use Rattle.std.specs.Fn.{Called, Mut}
-use Rattle.ac_util.specs.Occurrence.{Occurrence}
-use Rattle.ac_util.specs.Replaced.{exchanged_from}
+use Rattle.ac_util.specs.declared.error.MatchError.{MatchError}
+use Rattle.ac_util.specs.declared.error.ReplaceError.{ReplaceError}
+use Rattle.ac_util.specs.declared.error.ReplaceError.TheVariants.{Match, Memory}
+
+-- what stands from a place on: each gap as it is, each match exchanged for what `write` gives for it and its bytes
+abbrev pub exchanged_from : List ℕ → (Occurrence → List ℕ → List ℕ) → ℕ → List Occurrence → List ℕ
+exchanged_from haystack write place [] = drop place haystack
+exchanged_from haystack write place (m ∷ ms) =
+    slice_range haystack place m.start ++ write m (slice_range haystack m.start m.end)
+    ++ exchanged_from haystack write m.end ms
+
+-- the same, each match exchanged for the text of its pattern
+abbrev pub replaced_from : List ℕ → List (List ℕ) → ℕ → List Occurrence → List ℕ
+replaced_from haystack texts place ms =
+    exchanged_from haystack (λ m bytes. slice_index_or texts m.pattern []) place ms
+
+-- the whole haystack, with each match exchanged for the text of its pattern
+abbrev pub replaced : List ℕ → List (List ℕ) → List Occurrence → List ℕ
+replaced haystack texts ms = replaced_from haystack texts 0 ms
+
+-- whether a character of the text begins at this place, or the text ends there: `IsCharBoundary` as a test
+abbrev pub is_char_boundary : List ℕ → ℕ → Bool
+is_char_boundary text i =
+    nat_le i (length text) &&
+    (nat_le (length text) i || nat_lt (slice_index text i) 128 || nat_le 192 (slice_index text i))
+
+-- whether a match cuts no character
+abbrev pub is_whole : List ℕ → Occurrence → Bool
+is_whole text m = is_char_boundary text m.start && is_char_boundary text m.end
+
+-- those of the matches of a walk that cut no character; the walk isn't taken again
+abbrev pub whole_characters : List ℕ → List Occurrence → List Occurrence
+whole_characters text ms = filter (is_whole text) ms
+
+-- the first of the matches starts at the place or later
+abbrev pub StartFrom : ℕ → List Occurrence → Type 0
+StartFrom place [] = ⊤
+StartFrom place (m ∷ ms) = place ≤ m.start
 
 -- what the answer of a call asks for: to go on, to call no more, or to end at once with a failure
 pub data Answer (E : Type 0) : Type 0 where
@@ -116,3 +153,32 @@ pub record ClosureExchanges (E : Type 0) {F D : Type 0}
   pub kept : (haystack : List ℕ) (holds : D → List ℕ) (ms : List Occurrence) (s t : Replacing F D) (end : Option E)
       → OnlyAppends calls holds → ReplacementSteps (AppendsAll holds) calls answer_of haystack 0 ms s end t
       → (more : List ℕ) × (holds t.destination ≡ holds s.destination ++ more)
+
+-- one of two things, by why a replacement failed
+abbrev pub MatchReplaceError : ReplaceError → (MatchError → Type 0) → Type 0 → Type 0
+MatchReplaceError (Match e) refused memory = refused e
+MatchReplaceError Memory refused memory = memory
+
+-- a replacement by a list answers a whole text where nothing refuses it, and else fails by the refusal. Want of
+-- memory comes only where nothing refuses it
+abbrev pub AnswersWhole : {A : Type 0} → Option MatchError → (A → Type 0) → Result A ReplaceError → Type 0
+AnswersWhole refusal whole result =
+    MatchResult result (λ text. (refusal ≡ None) × whole text)
+    (λ e. MatchReplaceError e (λ m. refusal ≡ Some m) (refusal ≡ None))
+
+-- a replacement by a closure makes all of its steps, or those up to an append that was refused; where it is
+-- refused itself, it changes nothing. `steps end` says that the steps that end so were made
+abbrev pub MakesSteps : Option MatchError → (Option ReplaceError → Type 0) → Type 0 → Result (Unit {0}) ReplaceError
+    → Type 0
+MakesSteps refusal steps unchanged result =
+    MatchResult result (λ done. (refusal ≡ None) × steps None)
+    (λ e. MatchReplaceError e (λ m. (refusal ≡ Some m) × unchanged) ((refusal ≡ None) × steps (Some Memory)))
+
+-- the steps that exchange these matches by a closure lead a destination from `old` to `new`. `holds` gives the bytes
+-- in it
+abbrev pub StepsLead : {F D : Type 0}
+    → Mut F (Bor Occurrence × (Bor (List ℕ) × (MutBor D × Unit {0}))) (Bool × (MutBor D × Unit {0}))
+    → (D → List ℕ) → List ℕ → List Occurrence → F → D → Option ReplaceError → D → Type 0
+StepsLead {F} closures holds haystack ms closure old end new =
+    (left : F) × ReplacementSteps (AppendsAll holds) (Calls closures) answer_of haystack 0 ms
+    (record { closure = closure; destination = old }) end (record { closure = left; destination = new })

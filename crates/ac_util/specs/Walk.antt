@@ -1,8 +1,7 @@
 -- The matches of a search that goes on after each match: none overlaps the one before it.
 use Rattle.std.specs.Prelude.{ℕ, zero, suc, ◌+◌, ◌-◌, ◌<◌, ◌≤◌, Bool, true, false, ◌&&◌, ◌==◌, List, [], ◌∷◌, Option, None, Some}
 use Rattle.ac_util.specs.declared.search.MatchKind.{MatchKind}
-use Rattle.ac_util.specs.Occurrence.{Occurrence}
-use Rattle.ac_util.specs.Search.{Search, from}
+use Rattle.ac_util.specs.Occurrence.{Occurrence, Search, from}
 use Rattle.ac_util.specs.Pick.{pick}
 
 -- whether a match is empty and ends where the match before it did

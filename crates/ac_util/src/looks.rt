@@ -1,7 +1,6 @@
 //! What a search does: the bytes that it reads, and how often it looks at states.
 ghost use Rattle.std.specs.Prelude.{◌≡◌, ◌+◌, ◌<◌, ◌≤◌, length, slice_index};
-ghost use Rattle.ac_util.specs.Counts.{no_counts, one_more_call, one_more_read, more_looks};
-ghost use Rattle.ac_util.specs.Inputs.{input_of};
+ghost use Rattle.ac_util.specs.Input.{no_counts, one_more_call, one_more_read, more_looks, input_of};
 ghost use Rattle.ac_util.specs.Prefilters.{IsFirstAmong, IsNeedleMatch, PromisesFor, IsCandidateFor, first_bytes_of, skip_of};
 
 use crate::prefilter::{Candidate, FirstBytes, Needle, Prefilter};
@@ -23,7 +22,7 @@ pub struct Looks {
 }
 
 impl Model for Looks {
-    ghost use Rattle.ac_util.specs.Counts.{Counts};
+    ghost use Rattle.ac_util.specs.Input.{Counts};
 
     ghost Value = { Counts };
 
@@ -79,7 +78,7 @@ pub struct Tape<'h> {
 }
 
 impl<'h> Model for Tape<'h> {
-    ghost use Rattle.ac_util.specs.Counts.{Taped};
+    ghost use Rattle.ac_util.specs.Input.{Taped};
 
     ghost Value = { Taped };
 

@@ -1,8 +1,7 @@
 //! The patterns of a searcher, which it stores once.
 ghost use Rattle.std.specs.Prelude.{◌≡◌, ◌+◌, ◌<◌, ◌≤◌, length, map, slice_get, Some, Ok};
-ghost use Rattle.ac_util.specs.Borrowed.{bytes_of};
-ghost use Rattle.ac_util.specs.Limits.{AreStored, IsCheckedFirst};
-ghost use Rattle.ac_util.specs.Sameness.{plain_byte};
+ghost use Rattle.ac_util.specs.Patterns.{bytes_of, AreStored, IsCheckedFirst};
+ghost use Rattle.ac_util.specs.Occurrence.{plain_byte};
 
 use crate::error::BuildError;
 use crate::primitives::{GREATEST, PatternID};
@@ -24,7 +23,7 @@ pub struct Patterns<A: Allocator> {
 
 impl<A: Allocator> Model for Patterns<A> {
     ghost use Rattle.std.specs.Prelude.{List, ℕ};
-    ghost use Rattle.ac_util.specs.Limits.{IsWithinLimits};
+    ghost use Rattle.ac_util.specs.Patterns.{IsWithinLimits};
 
     ghost Value = { List (List ℕ) };
 

@@ -2,12 +2,10 @@
 //!
 //! Tests compare every faster search with it.
 ghost use Rattle.std.specs.Prelude.{◌≡◌, ◌↔◌, ◌+◌, ◌≤◌, ◌<◌, IsTrue, length};
-ghost use Rattle.ac_util.specs.Borrowed.{bytes_of};
-ghost use Rattle.ac_util.specs.Occurrence.{occurrence};
+ghost use Rattle.ac_util.specs.Patterns.{bytes_of};
+ghost use Rattle.ac_util.specs.Occurrence.{occurrence, IsSame, Occurs, from};
 ghost use Rattle.ac_util.specs.Pick.{beats, better, pick};
 ghost use Rattle.ac_util.specs.Plain.{search_within};
-ghost use Rattle.ac_util.specs.Sameness.{IsSame};
-ghost use Rattle.ac_util.specs.Search.{Occurs, from};
 
 use crate::patterns::plain_byte;
 use crate::primitives::GREATEST;
@@ -38,8 +36,8 @@ pub struct Query<'a> {
 impl<'a> Model for Query<'a> {
     ghost use Rattle.std.specs.Prelude.{◌+◌, ◌≤◌, length};
     ghost use Rattle.ac_util.specs.declared.primitives.TheConstants.{GREATEST};
-    ghost use Rattle.ac_util.specs.Borrowed.{bytes_of};
-    ghost use Rattle.ac_util.specs.Search.{Search};
+    ghost use Rattle.ac_util.specs.Patterns.{bytes_of};
+    ghost use Rattle.ac_util.specs.Occurrence.{Search};
 
     ghost Value = { Search };
 

@@ -5,7 +5,7 @@ ghost use Rattle.std.specs.Prelude.{◌≡◌, ◌≤◌, length, IfOk, MatchRes
 ghost use Rattle.std.specs.List.{list_any};
 ghost use Rattle.memchr.specs.Find.{IsFirstByte};
 ghost use Rattle.ac_util.specs.declared.error.BuildError.TheVariants.{Memory};
-ghost use Rattle.ac_util.specs.InputView.{IsLegal};
+ghost use Rattle.ac_util.specs.Input.{IsLegal};
 ghost use Rattle.ac_util.specs.Node.{is_empty};
 ghost use Rattle.ac_util.specs.Prefilters.{AreMarksOf, IsFirstAmong, IsNeedleMatch, IsPrefilterFor, IsCandidateFor, PromisesFor, SkipsByFew, begins_with, byte_count, first_bytes_of, is_one_of, marked, skip_of};
 

@@ -1,9 +1,9 @@
 //! The options of a search, and what it returns: match kinds, anchoring, spans and matches.
 ghost use Rattle.std.specs.Prelude.{◌≡◌, ◌+◌, ◌-◌, ◌<◌, ◌≤◌, ◌↔◌, IsTrue};
-ghost use Rattle.ac_util.specs.Inputs.{HasOffset};
+ghost use Rattle.ac_util.specs.Input.{HasOffset};
 ghost use Rattle.ac_util.specs.Node.{is_leftmost};
 ghost use Rattle.ac_util.specs.Occurrence.{occurrence};
-ghost use Rattle.ac_util.specs.Sizes.{usize_max};
+ghost use Rattle.ac_util.specs.Patterns.{usize_max};
 
 mod input;
 

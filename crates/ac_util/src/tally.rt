@@ -13,7 +13,7 @@ pub struct Tally {
 
 impl Model for Tally {
     ghost use Rattle.std.specs.Prelude.{length};
-    ghost use Rattle.ac_util.specs.Counts.{Tallied};
+    ghost use Rattle.ac_util.specs.Input.{Tallied};
 
     ghost Value = { Tallied };
 

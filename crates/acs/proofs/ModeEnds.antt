@@ -7,15 +7,13 @@ use Rattle.ac_search.specs.declared.WriteError.TheVariants.{Io as WriteFailed, W
 use Rattle.ac_search.specs.declared.StreamError.{StreamError}
 use Rattle.ac_search.specs.declared.StreamError.TheVariants.{Io as DeviceFailed, Match as Refused, Memory as NoBuffer, TooLong as StreamTooLong, WriteZero as TookNothing}
 use Rattle.ac_search.specs.declared.MatchKind.{MatchKind}
-use Rattle.ac_search.specs.declared.MatchKind.TheVariants.{LeftmostFirst, LeftmostLongest, Standard}
 use Rattle.ac_search.specs.declared.StartKind.{StartKind}
 use Rattle.ac_search.specs.Built.{Built, exchanged, stream_refusal}
 use Rattle.ac_search.specs.Device.{Reading, ReadsAll, Writing, WritesAll, WritesUntilFailure}
-use Rattle.ac_search.specs.Replaced.{replaced}
-use Rattle.ac_search.specs.Stream.{error_of}
-use Rattle.ac_search.specs.StreamReplacing.{FailsToReplace, IsSettledBy, IsStreamRefused}
+use Rattle.ac_search.specs.Replacement.{replaced}
+use Rattle.ac_search.specs.Stream.{error_of, FailsToReplace, IsSettledBy, IsStreamRefused}
 use Rattle.ac_search.specs.Streams.{Streaming}
-use Rattle.ac_search.specs.StreamsBegun.{HasBegun}
+use Rattle.ac_search.specs.Searchers.{HasBegun}
 use Rattle.acs.specs.declared.fault.Fault.{Fault}
 use Rattle.acs.specs.declared.request.Mode.{Mode}
 use Rattle.acs.specs.declared.request.Mode.TheVariants.{Replace, Stream, StreamReplace}

@@ -6,8 +6,7 @@ use Rattle.std.specs.Borrow.{Bor}
 use Rattle.std.proofs.lemmas.Grind.{common_steps}
 use Rattle.ac_search.specs.declared.BuildError.{BuildError}
 use Rattle.ac_search.specs.declared.BuildError.TheVariants.{PatternIdOverflow, PatternTooLong}
-use Rattle.ac_search.specs.Borrowed.{bytes_of}
-use Rattle.ac_search.specs.Limits.{limit_refusal, too_long_from}
+use Rattle.ac_search.specs.Patterns.{bytes_of, limit_refusal, too_long_from}
 use Rattle.ac_search.specs.Numbers.{GREATEST}
 use Rattle.acs.specs.Faults.{fault_of}
 use Rattle.acs.specs.Requests.{firsts}

@@ -4,7 +4,7 @@ use Rattle.std.proofs.Common.{◌≡◌, ℕ, Bool, false, true, suc, List, [], 
 use Rattle.std.proofs.lemmas.List.{length-map}
 use Rattle.std.specs.Borrow.{Bor}
 use Rattle.std.proofs.lemmas.Grind.{common_steps}
-use Rattle.ac_search.specs.Borrowed.{bytes_of}
+use Rattle.ac_search.specs.Patterns.{bytes_of}
 use Rattle.acs.specs.Requests.{firsts, seconds, side}
 
 -- there are as many second words as first ones

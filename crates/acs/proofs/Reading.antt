@@ -6,7 +6,7 @@ use Rattle.std.proofs.lemmas.Grind.{common_steps}
 use Rattle.ac_search.specs.declared.StreamError.{StreamError}
 use Rattle.ac_search.specs.declared.StreamError.TheVariants.{Io, Match, Memory, TooLong, WriteZero}
 use Rattle.ac_search.specs.Device.{Reading, ReadsSome, Took}
-use Rattle.ac_search.specs.StreamReplacing.{FailsToRead}
+use Rattle.ac_search.specs.Stream.{FailsToRead}
 
 -- some bytes came, and then a read has taken some more
 pub reads-more : {ends : Bool} {first before after : Reading} {bytes into : List ℕ} {n : ℕ} → n ≢ 0

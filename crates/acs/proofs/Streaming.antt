@@ -5,14 +5,11 @@ use Rattle.std.proofs.lemmas.List.{drop_more}
 use Rattle.std.proofs.lemmas.Option.{get_or_from_slice_get, slice_get_within}
 use Rattle.std.proofs.lemmas.Grind.{common_steps}
 use Rattle.ac_search.specs.declared.StreamError.{StreamError}
-use Rattle.ac_search.specs.declared.MatchKind.{MatchKind}
-use Rattle.ac_search.specs.declared.MatchKind.TheVariants.{LeftmostFirst, LeftmostLongest, Standard}
 use Rattle.ac_search.specs.Built.{Built}
 use Rattle.ac_search.specs.Device.{Reading, ReadsAll, ReadsSome, Writing, WritesAll}
 use Rattle.ac_search.specs.Occurrence.{Occurrence}
-use Rattle.ac_search.specs.Sizes.{usize_max}
-use Rattle.ac_search.specs.Stream.{stream_result}
-use Rattle.ac_search.specs.StreamReplacing.{IsNear, IsSettledBy}
+use Rattle.ac_search.specs.Patterns.{usize_max}
+use Rattle.ac_search.specs.Stream.{stream_result, IsNear, IsSettledBy}
 use Rattle.ac_search.specs.declared.Phase.{Phase}
 use Rattle.ac_search.specs.declared.Phase.TheVariants.{Ended, Failed, Open}
 use Rattle.ac_search.specs.Streams.{EndsNow, GivesError, GivesMatch, GivesNextMatch, GivesNone, GoesOnBy, HasGivenSettled, KeepsGiven, Streaming, matches_so_far, initial_stream}

@@ -5,7 +5,7 @@ use Rattle.std.specs.Iterator.{Drains}
 use Rattle.std.specs.declared.alloc.Global.{Global}
 use Rattle.ac_search.specs.declared.Sink.{Ghosts as Sink}
 use Rattle.ac_search.specs.declared.Source.{Ghosts as Source}
-use Rattle.ac_search.specs.Borrowed.{bytes_of}
+use Rattle.ac_search.specs.Patterns.{bytes_of}
 use Rattle.ac_search.specs.Built.{Built}
 use Rattle.ac_search.specs.Device.{Reading, Writing}
 use Rattle.ac_search.specs.Searchers.{Searcher}

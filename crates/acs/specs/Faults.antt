@@ -9,7 +9,7 @@ use Rattle.ac_search.specs.declared.MatchError.TheVariants.{InvalidInputAnchored
 use Rattle.ac_search.specs.declared.StreamError.{StreamError}
 use Rattle.ac_search.specs.declared.StreamError.TheVariants.{Io as DeviceFailed, Match as Refused, Memory as NoBuffer, TooLong as StreamTooLong, WriteZero as TookNothing}
 use Rattle.ac_search.specs.Builds.{RefusesBy}
-use Rattle.ac_search.specs.Limits.{limit_refusal}
+use Rattle.ac_search.specs.Patterns.{limit_refusal}
 use Rattle.ac_search.specs.Searchers.{Settings, engine_refusal}
 use Rattle.acs.specs.declared.fault.Fault.{Fault}
 use Rattle.acs.specs.declared.fault.Fault.TheVariants.{Usage, Memory, TooManyPatterns, PatternTooLong, TooManyStates, OverlappingKind, StreamKind, StreamEmpty, Io, WriteZero, TooLong}

@@ -1,10 +1,10 @@
 -- What the program prints.
 use Rattle.std.specs.Prelude.{ℕ, List, [], ◌∷◌, ◌++◌, codes, decimal, flat_map, option_to_list, Result, Ok, Err}
 use Rattle.ac_search.specs.Built.{Built, exchanged, find_result, search_in, walk_result}
-use Rattle.ac_search.specs.InputView.{whole_input}
+use Rattle.ac_search.specs.Input.{whole_input}
 use Rattle.ac_search.specs.Listing.{all}
 use Rattle.ac_search.specs.Occurrence.{Occurrence}
-use Rattle.ac_search.specs.Replaced.{replaced}
+use Rattle.ac_search.specs.Replacement.{replaced}
 use Rattle.ac_search.specs.Stream.{stream_result}
 use Rattle.acs.specs.declared.request.Mode.{Mode}
 use Rattle.acs.specs.declared.request.Mode.TheVariants.{Find, Walk, Overlap, Stream, Replace, StreamReplace}

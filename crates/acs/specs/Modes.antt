@@ -4,12 +4,11 @@ use Rattle.std.specs.Io.KnownBytes.{Consumes}
 use Rattle.std.specs.declared.vec.Vec.{Vec}
 use Rattle.ac_search.specs.declared.MatchError.{MatchError}
 use Rattle.ac_search.specs.declared.StreamError.{StreamError}
-use Rattle.ac_search.specs.InputView.{whole_input}
+use Rattle.ac_search.specs.Input.{whole_input}
 use Rattle.ac_search.specs.Built.{Built, overlapping_iter_refusal, stream_refusal}
 use Rattle.ac_search.specs.Device.{Reading, ReadsAll, ReadsSome, Writing, WritesAll, WritesSome}
-use Rattle.ac_search.specs.Replaced.{replaced}
-use Rattle.ac_search.specs.Stream.{stream_result}
-use Rattle.ac_search.specs.StreamReplacing.{FailsToRead, IsNear, IsSettledBy}
+use Rattle.ac_search.specs.Replacement.{replaced}
+use Rattle.ac_search.specs.Stream.{stream_result, FailsToRead, IsNear, IsSettledBy}
 use Rattle.acs.specs.declared.fault.Fault.{Fault}
 use Rattle.acs.specs.declared.fault.Fault.TheVariants.{Io, Memory, WriteZero}
 use Rattle.acs.specs.declared.request.Mode.{Mode}

@@ -2,7 +2,7 @@
 ghost use Rattle.std.specs.Prelude.{◌≡◌, ◌≢◌, MatchResult};
 ghost use Rattle.ac_search.specs.declared.MatchKind.TheVariants.{Standard};
 ghost use Rattle.ac_search.specs.declared.StartKind.TheVariants.{Unanchored};
-ghost use Rattle.ac_search.specs.Borrowed.{bytes_of};
+ghost use Rattle.ac_search.specs.Patterns.{bytes_of};
 ghost use Rattle.acs.specs.declared.fault.Fault.TheVariants.{OverlappingKind};
 ghost use Rattle.acs.specs.declared.request.Mode.TheVariants.{Find, Overlap, Replace, Stream, StreamReplace, Walk};
 ghost use Rattle.acs.specs.Devices.{AnswersOn, Replaces};

@@ -1,6 +1,6 @@
 //! What the words after the program's name ask for.
 ghost use Rattle.std.specs.Prelude.{◌≡◌, IfOk};
-ghost use Rattle.ac_search.specs.Borrowed.{bytes_of};
+ghost use Rattle.ac_search.specs.Patterns.{bytes_of};
 ghost use Rattle.acs.specs.Faults.{ChecksLimits};
 ghost use Rattle.acs.specs.Requests.{allows_count, engine_of, firsts, kind_of, mode_of, patterns_in, request_of, seconds, side, words_among};
 

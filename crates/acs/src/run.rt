@@ -1,7 +1,7 @@
 //! The program over any reader and writer.
 ghost use Rattle.std.specs.Prelude.{◌≡◌};
 ghost use Rattle.std.specs.Iterator.{IsFinite};
-ghost use Rattle.ac_search.specs.Borrowed.{bytes_of};
+ghost use Rattle.ac_search.specs.Patterns.{bytes_of};
 ghost use Rattle.acs.specs.Devices.{EndsOn, EndsOnAll, HasAnsweredOn, NeverRuns, RunsOn};
 ghost use Rattle.acs.specs.Lines.{status_of};
 ghost use Rattle.acs.specs.Runs.{BuildsFor, HasReported};

@@ -29,7 +29,7 @@ pub struct Common<A: Allocator = Global> {
 impl<A: Allocator> Model for Common<A> {
     ghost use Rattle.std.specs.Prelude.{◌≡◌, IfSome, option_map};
     ghost use Rattle.ac_automaton.specs.Util.{IsSkipFor, longest_len, shortest_len, skip_for, skip_of};
-    ghost use Rattle.ac_automaton.specs.Common.{CommonView};
+    ghost use Rattle.ac_automaton.specs.Automata.{CommonView};
 
     ghost Value = { CommonView };
 

@@ -2,8 +2,7 @@
 ghost use Rattle.std.specs.Prelude.{◌≡◌, ◌<◌, ◌↔◌, IsTrue, None};
 ghost use Rattle.ac_automaton.specs.Util.{find_result, input_of, Standard, start_refusal};
 ghost use Rattle.ac_automaton.specs.Answers.{AnswersFind, BeginsBy};
-ghost use Rattle.ac_automaton.specs.Finders.{finding_of};
-ghost use Rattle.ac_automaton.specs.Finds.{FindsIn, MaySearch, between, input_over};
+ghost use Rattle.ac_automaton.specs.Finds.{finding_of, FindsIn, MaySearch, between, input_over};
 
 use super::Automaton;
 use super::scan::{Cursor, Scanner};
@@ -83,8 +82,8 @@ pub struct Finder<'a, A: Automaton> {
 impl<'a, A: Automaton> Model for Finder<'a, A> {
     ghost use Rattle.std.specs.Prelude.{◌≡◌, false, true, [], Some, IfSome};
     ghost use Rattle.ac_automaton.specs.Util.{is_leftmost, No, skip_of};
-    ghost use Rattle.ac_automaton.specs.Finders.{Finding, finding_of};
-    ghost use Rattle.ac_automaton.specs.Skipping.{Skips};
+    ghost use Rattle.ac_automaton.specs.Finds.{Finding, finding_of};
+    ghost use Rattle.ac_automaton.specs.Scans.{Skips};
 
     ghost Value = { Finding };
 
@@ -203,8 +202,7 @@ impl<'a, A: Automaton> Finder<'a, A> {
 impl<'a, A: Automaton> Scanner<'a, A> {
     ghost use Rattle.ac_automaton.specs.Automata.{IsState};
     ghost use Rattle.ac_automaton.specs.Finds.{FindsOn, HasAnswer, MayBegin, MayFind, MayPick, PicksOn, TellsAnswer};
-    ghost use Rattle.ac_automaton.specs.Scans.{scanner};
-    ghost use Rattle.ac_automaton.specs.Skipping.{SkipsToNeedle};
+    ghost use Rattle.ac_automaton.specs.Scans.{scanner, SkipsToNeedle};
 
     /// Returns the pick of the span, by reading on from where nothing is picked but what the state there finds.
     #[inline]

@@ -1,7 +1,7 @@
 //! Bytes on their way to a writer, gathered so that one write takes many pieces.
 ghost use Rattle.std.specs.Prelude.{◌≡◌, ◌+◌, ◌≤◌, ◌++◌, [], length};
 ghost use Rattle.ac_automaton.specs.declared.automaton.gathered.TheConstants.{ROOM};
-ghost use Rattle.ac_automaton.specs.Gathering.{GathersOrFails, WritesHeld};
+ghost use Rattle.ac_automaton.specs.Exchanges.{GathersOrFails, WritesHeld};
 
 use ac_util::device::{Sink, WriteError, write_all};
 use std::marker::Model;

@@ -1,6 +1,6 @@
 //! How long the shortest and the longest of a list of patterns are.
 ghost use Rattle.std.specs.Prelude.{◌≡◌};
-ghost use Rattle.ac_util.specs.Sizes.{longest_len, shortest_len};
+ghost use Rattle.ac_util.specs.Patterns.{longest_len, shortest_len};
 
 use ac_util::patterns::Patterns;
 use std::alloc::Allocator;

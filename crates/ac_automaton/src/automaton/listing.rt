@@ -41,8 +41,7 @@ impl Reached {
 
 impl<'a, A: Automaton> Scanner<'a, A> {
     ghost use Rattle.ac_automaton.specs.Overlaps.{HasComeTo, ListsOn, MayList, TakesDue};
-    ghost use Rattle.ac_automaton.specs.Scans.{scanner};
-    ghost use Rattle.ac_automaton.specs.Skipping.{SkipsTo};
+    ghost use Rattle.ac_automaton.specs.Scans.{scanner, SkipsTo};
 
     /// Returns the first bytes to which a listing may skip, in an unanchored search.
     ///

@@ -37,9 +37,7 @@ impl<'a, 'h, A: Automaton> Model for FindOverlappingIter<'a, 'h, A> {
     ghost use Rattle.std.specs.Prelude.{IfSome};
     ghost use Rattle.ac_util.specs.Prefilters.{first_bytes_of};
     ghost use Rattle.ac_automaton.specs.Overlaps.{IsListing, Overlapping, overlapping_by};
-    ghost use Rattle.ac_automaton.specs.Progress.{work_of};
-    ghost use Rattle.ac_automaton.specs.Scans.{in_memory, scan_of};
-    ghost use Rattle.ac_automaton.specs.Skipping.{SkipsTo};
+    ghost use Rattle.ac_automaton.specs.Scans.{work_of, in_memory, scan_of, SkipsTo};
 
     ghost Value = { Overlapping };
 

@@ -4,8 +4,7 @@
 //! again.
 ghost use Rattle.std.specs.Prelude.{◌≤◌, ◌<◌, IfSome};
 ghost use Rattle.ac_util.specs.Prefilters.{first_bytes_of};
-ghost use Rattle.ac_automaton.specs.Scans.{Advances, MayAdvance, scanner};
-ghost use Rattle.ac_automaton.specs.Skipping.{SkipsTo};
+ghost use Rattle.ac_automaton.specs.Scans.{Advances, MayAdvance, scanner, SkipsTo};
 
 use super::Automaton;
 use super::scan::{Cursor, Scanner};

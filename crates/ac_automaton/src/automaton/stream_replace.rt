@@ -2,8 +2,7 @@
 //! closure.
 ghost use Rattle.std.specs.Prelude.{◌≡◌, ℕ, ◌<◌, List, [], None, OnOk, Result, length};
 ghost use Rattle.ac_automaton.specs.Util.{bytes_of, Occurrence, Replacing, stream_refusal, StreamError};
-ghost use Rattle.ac_automaton.specs.Exchanges.{AcceptsMatches, beside, CallsBy, ExchangesRead, Passes, PassesText, ReplacesOrFails, StillAccepts};
-ghost use Rattle.ac_automaton.specs.Gathering.{by_texts, Passing};
+ghost use Rattle.ac_automaton.specs.Exchanges.{AcceptsMatches, beside, CallsBy, ExchangesRead, Passes, PassesText, ReplacesOrFails, StillAccepts, by_texts, Passing};
 ghost use Rattle.ac_automaton.specs.Streams.{initial_stream};
 ghost use Rattle.ac_automaton.specs.Answers.{ExchangesStream, ExchangesStreamBy};
 

@@ -35,7 +35,7 @@ impl<'a, 'h, A: Automaton> Model for FindIter<'a, 'h, A> {
     ghost use Rattle.std.specs.Prelude.{◌≡◌, ◌<◌, ◌≤◌, length};
     ghost use Rattle.ac_automaton.specs.Util.{input_of, usize_max};
     ghost use Rattle.ac_automaton.specs.Iterators.{IsUnderWay, Walking, walking_of};
-    ghost use Rattle.ac_automaton.specs.Progress.{work_of};
+    ghost use Rattle.ac_automaton.specs.Scans.{work_of};
 
     ghost Value = { Walking };
 

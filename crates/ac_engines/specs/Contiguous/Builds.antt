@@ -3,9 +3,9 @@ use Rattle.std.specs.Prelude.{◌≡◌, ℕ, nat_lt, Bool, true, List, length, 
 use Rattle.ac_automaton.specs.Util.{alphabet_len, BuildError, Built, GREATEST, StateIdOverflow}
 use Rattle.ac_automaton.specs.Builds.{AnswersBuild, AnswersMaking, EngineSettings, IsAllowed, engine_built_by, refusal_or, state_refusal, usual_engine_settings}
 use Rattle.ac_automaton.specs.Prelude.{Trie}
-use Rattle.ac_engines.specs.Classes.{classes_by}
+use Rattle.ac_engines.specs.Listed.{classes_by}
 use Rattle.ac_engines.specs.Contiguous.{ContiguousView}
-use Rattle.ac_engines.specs.Contiguous.Sizes.{packed_words}
+use Rattle.ac_engines.specs.Contiguous.Words.{packed_words}
 
 -- what every engine is built by, the length below which the states of strings are dense, and whether bytes that need
 -- not be distinguished share a class

@@ -6,8 +6,7 @@ use Rattle.ac_automaton.specs.Prelude.{ForNode}
 use Rattle.ac_automaton.specs.declared.nfa.noncontiguous.state.TheConstants.{ANCHORED_START, START}
 use Rattle.ac_engines.specs.Contiguous.{IsContiguous, packed_at}
 use Rattle.ac_engines.specs.Contiguous.Plans.{HasPlaces, HasWords, MayPack, PackPlan, has_matches, packed_of, places_of, size_at, total}
-use Rattle.ac_engines.specs.Contiguous.Sizes.{node_format}
-use Rattle.ac_engines.specs.Contiguous.Words.{Appends, BeginsWith, PackedState, format_words}
+use Rattle.ac_engines.specs.Contiguous.Words.{node_format, Appends, BeginsWith, PackedState, format_words}
 use Rattle.ac_engines.specs.declared.nfa.contiguous.format.Format.TheVariants.{Dense}
 use Rattle.ac_engines.specs.declared.nfa.contiguous.pack.Buffers.{Buffers}
 use Rattle.std.specs.declared.alloc.AllocError.{AllocError}

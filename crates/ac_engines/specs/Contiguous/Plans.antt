@@ -5,7 +5,7 @@ use Rattle.ac_automaton.specs.declared.nfa.noncontiguous.state.TheConstants.{ANC
 use Rattle.ac_automaton.specs.Prelude.{AreNodes, matches_of, Trie}
 use Rattle.ac_engines.specs.Dfa.Filling.{first_row_in}
 use Rattle.ac_engines.specs.Contiguous.{ContiguousView, Places}
-use Rattle.ac_engines.specs.Contiguous.Sizes.{node_format, node_words, packed_words}
+use Rattle.ac_engines.specs.Contiguous.Words.{node_format, node_words, packed_words}
 use Rattle.ac_engines.specs.declared.nfa.contiguous.format.Format.{Format}
 
 -- the sum of a function over the numbers below one

@@ -1,13 +1,83 @@
 -- How the states of the contiguous engine are spelled in words of 32 bits.
-use Rattle.std.specs.Prelude.{◌≡◌, ◌≢◌, ℕ, ◌+◌, ◌*◌, ◌/◌, ◌%◌, ◌<◌, ◌≤◌, ◌==◌, List, [], ◌∷◌, ◌++◌, length, map, slice_index, slice_index_or, All, IfOk, Option, Result, Some, None, if◌then◌else◌, ⊤}
-use Rattle.std.specs.Borrow.{Bor}
-use Rattle.std.specs.Int.{to_le_bytes, w32}
-use Rattle.std.specs.List.{range_with_len}
-use Rattle.std.specs.List.Sorted.{IsStrictlyIncreasing}
+use Rattle.std.specs.Prelude.{ℕ, zero, suc, ◌+◌, ◌/◌, nat_lt, if◌then◌else◌, ◌*◌, List, [], ◌∷◌, length, Some, None, ◌≡◌, ◌≢◌, ◌%◌, ◌<◌, ◌≤◌, ◌==◌, ◌++◌, map, slice_index, slice_index_or, All, IfOk, Option, Result, ⊤}
 use Rattle.ac_engines.specs.declared.nfa.contiguous.format.Format.{Format}
 use Rattle.ac_engines.specs.declared.nfa.contiguous.format.Format.TheVariants.{Dense, One, Sparse}
-use Rattle.ac_engines.specs.Contiguous.Formats.{dense_form, most_sparse, no_target, one_form, one_match}
+use Rattle.std.specs.List.{sum_by, range_with_len}
+use Rattle.ac_automaton.specs.Util.{Built, inner_nodes, No, Node}
+use Rattle.ac_automaton.specs.Prelude.{matches_of, transition_bytes_of, plain_of}
+use Rattle.std.specs.Borrow.{Bor}
+use Rattle.std.specs.Int.{to_le_bytes, w32}
+use Rattle.std.specs.List.Sorted.{IsStrictlyIncreasing}
 use Rattle.ac_engines.specs.declared.nfa.contiguous.state.Edge.{Edge}
+
+-- the most transitions of a state that is not dense
+abbrev pub most_sparse : ℕ
+most_sparse = 127
+
+-- the low byte of the first word of a dense state
+abbrev pub dense_form : ℕ
+dense_form = 255
+
+-- the low byte of the first word of a state with one transition
+abbrev pub one_form : ℕ
+one_form = 254
+
+-- what stands in place of a target where a class has none
+abbrev pub no_target : ℕ
+no_target = 1
+
+-- what is added to the number of a match that is the only one: the top bit of its word
+abbrev pub one_match : ℕ
+one_match = 2147483648
+
+-- the form of a state below the dense depth, by its numbers of transitions and of matches: one transition has a form
+-- of its own, where nothing matches
+abbrev pub sparse_format : ℕ → ℕ → Format
+sparse_format (suc zero) zero = One
+sparse_format transitions matches = Sparse
+
+-- the form of a state other than the dead one and the starts, which are dense; its depth is the length of its node
+abbrev pub format_of : ℕ → ℕ → ℕ → ℕ → Format
+format_of depth dense_depth transitions matches =
+    if nat_lt depth dense_depth then Dense
+    else if nat_lt most_sparse transitions then Dense
+    else sparse_format transitions matches
+
+-- a match stands in one word; several stand after their count
+abbrev pub match_words : ℕ → ℕ
+match_words zero = 0
+match_words (suc zero) = 1
+match_words (suc (suc more)) = 3 + more
+
+-- how many words a state takes: two at its head, a target for each class or for each transition, with the classes of
+-- these, four in a word, and its matches. No state of one transition has matches
+abbrev pub words_of_state : Format → ℕ → ℕ → ℕ → ℕ
+words_of_state Dense classes transitions matches = 2 + classes + match_words matches
+words_of_state One classes transitions matches = 3 + match_words matches
+words_of_state Sparse classes transitions matches = 2 + (transitions + 3) / 4 + transitions + match_words matches
+
+-- the form of the state of a string that isn't empty, by the length up to which states are dense
+abbrev pub inner_format : Built → ℕ → List ℕ → Format
+inner_format built dense_depth w =
+    format_of (length w) dense_depth (length (transition_bytes_of built (Some w))) (length (matches_of built No (Some w)))
+
+-- the form of a node's state: the dead one and the starts are dense
+abbrev pub node_format : Built → ℕ → Node → Format
+node_format built dense_depth None = Dense
+node_format built dense_depth (Some []) = Dense
+node_format built dense_depth (Some (x ∷ w)) = inner_format built dense_depth (x ∷ w)
+
+-- how many words it takes, where there are so many classes
+abbrev pub node_words : Built → ℕ → ℕ → Node → ℕ
+node_words built dense_depth classes u =
+    words_of_state (node_format built dense_depth u) classes (length (transition_bytes_of built u))
+    (length (matches_of built No u))
+
+-- how many words there are: those of the dead state, of the two starts, and of the nodes that aren't empty
+abbrev pub packed_words : Built → ℕ → ℕ → ℕ
+packed_words built dense_depth classes =
+    node_words built dense_depth classes None + 2 * node_words built dense_depth classes (Some [])
+    + sum_by (λ w. node_words built dense_depth classes (Some w)) (inner_nodes built.kind (plain_of built))
 
 -- what the words of a state spell: its failure target, where it leads by a class without a transition, its transitions
 -- in ascending order of their classes, and its matches

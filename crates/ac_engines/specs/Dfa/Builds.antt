@@ -1,10 +1,9 @@
 -- What a build of a DFA is asked for, what it answers, and why it may be refused.
 use Rattle.std.specs.Prelude.{◌≡◌, ℕ, ◌-◌, ◌*◌, nat_lt, Bool, true, List, length, MatchResult, Option, Result, Some, None, if◌then◌else◌}
 use Rattle.ac_automaton.specs.Util.{BuildError, Built, GREATEST, StartKind, state_count, StateIdOverflow, stride, stride2, Unanchored}
-use Rattle.ac_automaton.specs.Prelude.{engine_built_by, EngineSettings, IsAllowed, plain_of, refusal_or, state_refusal, usual_engine_settings}
+use Rattle.ac_automaton.specs.Prelude.{engine_built_by, EngineSettings, IsAllowed, plain_of, refusal_or, state_refusal, usual_engine_settings, Trie}
 use Rattle.ac_automaton.specs.Builds.{AnswersBuild, AnswersMaking}
-use Rattle.ac_automaton.specs.Prelude.{Trie}
-use Rattle.ac_engines.specs.Classes.{classes_by}
+use Rattle.ac_engines.specs.Listed.{classes_by}
 use Rattle.ac_engines.specs.Dfa.{DfaView}
 use Rattle.ac_engines.specs.Dfa.Layouts.{table_rows}
 

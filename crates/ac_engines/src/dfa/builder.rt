@@ -8,7 +8,7 @@ ghost use Rattle.ac_engines.specs.Dfa.Builds.{AnswersDfaFrom, AnswersLen, Builds
 ghost use Rattle.ac_engines.specs.Dfa.Filling.{FillsAll, MayFill};
 ghost use Rattle.ac_engines.specs.Dfa.Layouts.{table_rows};
 ghost use Rattle.ac_engines.specs.Dfa.{start_number};
-ghost use Rattle.ac_engines.specs.Numbering.{AnswersSize};
+ghost use Rattle.ac_engines.specs.Listed.{AnswersSize};
 
 use super::fill::Filler;
 use super::layout::{Layout, table_rows};

@@ -4,7 +4,7 @@ ghost use Rattle.ac_automaton.specs.Util.{GREATEST};
 ghost use Rattle.ac_util.specs.declared.search.StartKind;
 ghost use Rattle.ac_automaton.specs.declared.nfa.noncontiguous.state.TheConstants.{FIRST_INNER, START};
 ghost use Rattle.ac_engines.specs.Dfa.Layouts.{IsLayoutOver, PlacesState, rows_each, rows_over, table_rows};
-ghost use Rattle.ac_engines.specs.Nodes.{HasNode};
+ghost use Rattle.ac_engines.specs.Listed.{HasNode};
 
 use super::lists::{add_rows, first_lists};
 use ac_automaton::automaton::Automaton;

@@ -2,7 +2,7 @@
 ghost use Rattle.std.specs.Prelude.{◌≡◌, [], IfOk};
 ghost use Rattle.ac_automaton.specs.declared.nfa.noncontiguous.state.TheConstants.{START};
 ghost use Rattle.ac_engines.specs.Dfa.Layouts.{AddsLists, first_lists};
-ghost use Rattle.ac_engines.specs.Nodes.{HasNode};
+ghost use Rattle.ac_engines.specs.Listed.{HasNode};
 
 use crate::matches::list_matches;
 use ac_automaton::nfa::noncontiguous::{NFA, START};

@@ -2,7 +2,7 @@
 ghost use Rattle.std.specs.Prelude.{◌≡◌, drop};
 ghost use Rattle.std.proofs.Common.{inr, refl};
 ghost use Rattle.ac_util.specs.declared.search.Anchored.{Anchored};
-ghost use Rattle.ac_util.specs.Borrowed.{bytes_of};
+ghost use Rattle.ac_util.specs.Patterns.{bytes_of};
 ghost use Rattle.ac_automaton.specs.Prelude.{IsState};
 ghost use Rattle.ac_engines.specs.Contiguous.{IsContiguous, IsContiguousState, Places, match_list_at};
 ghost use Rattle.ac_engines.specs.Contiguous.Builds.{BuildsContiguous, usual_contiguous_settings};

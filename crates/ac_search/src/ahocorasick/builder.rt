@@ -1,7 +1,7 @@
 //! The settings of a searcher, and its build.
 ghost use Rattle.std.specs.Prelude.{◌≡◌, None};
 ghost use Rattle.ac_util.specs.declared.search.StartKind;
-ghost use Rattle.ac_util.specs.Borrowed.{bytes_of};
+ghost use Rattle.ac_util.specs.Patterns.{bytes_of};
 ghost use Rattle.ac_search.specs.Engines.{IsMadeOrRefused};
 ghost use Rattle.ac_search.specs.declared.ahocorasick.choice.AhoCorasickKind.TheVariants.{ContiguousNFA, DFA};
 ghost use Rattle.ac_search.specs.Searchers.{BuildsSearcher, engine_chosen_from, usual_settings};

@@ -5,7 +5,7 @@ ghost use Rattle.std.specs.Iterator.Runs.{YieldsInOrder};
 ghost use Rattle.ac_automaton.specs.Util.{input_of, find_refusal, find_result};
 ghost use Rattle.ac_automaton.specs.Answers.{AnswersFind};
 ghost use Rattle.ac_automaton.specs.Iterators.{GoesOn};
-ghost use Rattle.ac_search.specs.Only.{SomeOccurs};
+ghost use Rattle.ac_search.specs.Alike.{SomeOccurs};
 ghost use Rattle.ac_search.specs.Searchers.{BeginsWalk, initial_walk_by};
 
 use super::engine::{Engine, EngineFindIter, by_engine};

@@ -4,8 +4,7 @@ ghost use Rattle.std.specs.Iterator.{item_count};
 ghost use Rattle.std.specs.Iterator.Runs.{YieldsInOrder};
 ghost use Rattle.ac_automaton.specs.Util.{input_of, overlapping_iter_refusal, overlapping_refusal};
 ghost use Rattle.ac_automaton.specs.Overlaps.{ListsNext};
-ghost use Rattle.ac_search.specs.Places.{FindsItem, HasPlace, IsNextPlace, next_item};
-ghost use Rattle.ac_search.specs.Searchers.{BeginsListing, initial_listing_by};
+ghost use Rattle.ac_search.specs.Searchers.{FindsItem, HasPlace, IsNextPlace, next_item, BeginsListing, initial_listing_by};
 
 use super::engine::{Engine, EngineFindOverlappingIter, by_engine};
 use super::{AhoCorasick, check_start};

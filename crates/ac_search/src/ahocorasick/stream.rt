@@ -3,7 +3,7 @@ ghost use Rattle.std.specs.Prelude.{◌≡◌, Err, IfErr, IfOk, MatchResult, No
 ghost use Rattle.ac_automaton.specs.Util.{bytes_of, stream_refusal};
 ghost use Rattle.ac_automaton.specs.Answers.{BeginsStream, ExchangesStream, ExchangesStreamBy};
 ghost use Rattle.ac_automaton.specs.Streams.{GivesRead, StreamsOn, kept_len};
-ghost use Rattle.ac_search.specs.StreamsBegun.{HasBegun, HasBegunOver};
+ghost use Rattle.ac_search.specs.Searchers.{HasBegun, HasBegunOver};
 
 use super::engine::{Engine, EngineStreamFinder, by_engine};
 use super::stream_iter::StreamFindIter;

@@ -2,7 +2,7 @@
 ghost use Rattle.std.specs.Prelude.{◌≡◌, IfOk, None};
 ghost use Rattle.ac_search.specs.Built.{overlapping_refusal, search_in};
 ghost use Rattle.ac_search.specs.Listing.{all};
-ghost use Rattle.ac_search.specs.InputView.{whole_input};
+ghost use Rattle.ac_search.specs.Input.{whole_input};
 
 use super::engines::{SENTENCE, WORDS, builder_of, engines};
 use super::{Triple, same, same_by, triple_of, triples_of};

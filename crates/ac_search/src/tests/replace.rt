@@ -1,6 +1,6 @@
 ghost use Rattle.std.specs.Prelude.{◌≡◌, ◌++◌, IfOk, List, ℕ, None, [], string_bytes};
 ghost use Rattle.ac_search.specs.Built.{exchanged, replace_refusal};
-ghost use Rattle.ac_search.specs.Replaced.{exchanged_from};
+ghost use Rattle.ac_search.specs.Replacement.{exchanged_from};
 
 use super::same;
 use crate::MatchKind::{LeftmostFirst, Standard};

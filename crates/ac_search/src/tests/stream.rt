@@ -1,6 +1,6 @@
 //! Streams by readers and writers that do little at once, and fail.
 ghost use Rattle.std.specs.Prelude.{◌≡◌, IfOk, length};
-ghost use Rattle.ac_util.specs.Borrowed.{bytes_of};
+ghost use Rattle.ac_util.specs.Patterns.{bytes_of};
 
 use super::devices::{
     ALWAYS, End, FORMS, Few, Form, Pieces, READ, WRITE, compare_items, end_of, exchanged_by,

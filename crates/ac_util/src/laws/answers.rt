@@ -1,22 +1,17 @@
 //! For users: what follows from the definitions of what a search answers.
-ghost use Rattle.std.specs.Prelude.{◌≡◌, ℕ, ◌<◌, ◌≤◌, ◌↔◌, ◌⊎◌, Bool, true, false};
-ghost use Rattle.std.specs.Prelude.{List, [], Contains, AllPairs, length, slice_get};
-ghost use Rattle.std.specs.Prelude.{Option, None, Some};
+ghost use Rattle.std.specs.Prelude.{◌≡◌, ℕ, ◌<◌, ◌≤◌, ◌↔◌, ◌⊎◌, Bool, true, false, List, [], Contains, AllPairs, length, slice_get, Option, None, Some};
 ghost use Rattle.std.specs.Str.{IsCharBoundary};
 ghost use Rattle.ac_util.specs.declared.search.MatchKind.{MatchKind};
 ghost use Rattle.ac_util.specs.declared.search.MatchKind.TheVariants.{Standard};
 ghost use Rattle.ac_util.specs.Built.{Built, find_result, search_in, walk_result};
-ghost use Rattle.ac_util.specs.InputView.{InputView};
+ghost use Rattle.ac_util.specs.Input.{InputView};
 ghost use Rattle.ac_util.specs.Laws.{AllLieIn, AnswerLiesIn, AreAlike, CutsNoCharacter, Decides, EarliestIsStandard, HoldsBack, IsInListing, IsPastListing, MatchesStay, SettledStays, StayingIsDecided, StepsKeep, StepsLeaveBeginning, StepsLeaveWhole, WalkBegins, WalkEnds, WalkGoesOn, matched_pattern, most_matches};
 ghost use Rattle.ac_util.specs.Listing.{all, IsBefore, item_at};
-ghost use Rattle.ac_util.specs.Occurrence.{Occurrence};
+ghost use Rattle.ac_util.specs.Occurrence.{Occurrence, AreOneLetter, IsSame, same_byte, same_string, Occurs, Search, occurs};
 ghost use Rattle.ac_util.specs.Pick.{IsPick, order_of, pick};
-ghost use Rattle.ac_util.specs.Replaced.{is_char_boundary};
-ghost use Rattle.ac_util.specs.Sameness.{AreOneLetter, IsSame, same_byte, same_string};
-ghost use Rattle.ac_util.specs.Search.{Occurs, Search, occurs};
+ghost use Rattle.ac_util.specs.Replacement.{is_char_boundary, Calls, ClosureExchanges};
 ghost use Rattle.ac_util.specs.declared.error.ReplaceError.{ReplaceError};
-ghost use Rattle.ac_util.specs.Replacement.{Calls, ClosureExchanges};
-ghost use Rattle.ac_util.specs.Text.{cut, outward};
+ghost use Rattle.ac_util.specs.Node.{cut, outward};
 ghost use Rattle.ac_util.specs.Walk.{IsAfter, walk};
 
 use crate::error::ReplaceError;

@@ -16,7 +16,7 @@ ghost use Rattle.ac_util.specs.declared.search.input.Input.{Input as AnInput};
 ghost use Rattle.ac_util.specs.declared.search.StartKind.{StartKind};
 ghost use Rattle.ac_util.specs.declared.search.StartKind.TheVariants.{Unanchored};
 ghost use Rattle.ac_util.specs.Classes.{AreClasses, alphabet_len, class_of, classes_of, singletons, stride, stride2};
-ghost use Rattle.ac_util.specs.Inputs.{input_of};
+ghost use Rattle.ac_util.specs.Input.{input_of};
 ghost use Rattle.ac_util.specs.Laws.{AlwaysSetsApart, AreAlwaysClasses, AreBelow, HashesEqually, IsAlwaysLawful, IsLawfulAsRead, OnlyPatternsLead, match_input};
 ghost use Rattle.ac_util.specs.Occurrence.{Occurrence};
 

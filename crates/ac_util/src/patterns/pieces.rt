@@ -1,6 +1,6 @@
 //! Many lists stored in one, one after another.
 ghost use Rattle.std.specs.Prelude.{◌≡◌, ◌<◌, ◌++◌, ◌∷◌, [], length, slice_get, IfOk, MatchResult, Some, ◌+◌};
-ghost use Rattle.ac_util.specs.Pieces.{AreBounds, pieces};
+ghost use Rattle.ac_util.specs.Patterns.{AreBounds, pieces};
 
 use std::alloc::{AllocError, Allocator};
 use std::marker::Model;
@@ -18,7 +18,7 @@ pub struct Pieces<T, A: Allocator> {
 
 impl<T, A: Allocator> Model for Pieces<T, A> {
     ghost use Rattle.std.specs.Prelude.{List, length};
-    ghost use Rattle.ac_util.specs.Pieces.{AreBounds, pieces};
+    ghost use Rattle.ac_util.specs.Patterns.{AreBounds, pieces};
 
     ghost Value = { List (List T) };
 

@@ -1,8 +1,8 @@
 //! Matches replaced by texts.
 ghost use Rattle.std.specs.Prelude.{◌≤◌, length, All, AllPairs};
-ghost use Rattle.ac_util.specs.Borrowed.{bytes_of};
+ghost use Rattle.ac_util.specs.Patterns.{bytes_of};
 ghost use Rattle.ac_util.specs.Plain.{AnswersItems, IsReplaceable, EndsBy};
-ghost use Rattle.ac_util.specs.Replaced.{replaced};
+ghost use Rattle.ac_util.specs.Replacement.{replaced};
 ghost use Rattle.ac_util.specs.Walk.{walk};
 
 use super::{Query, walk};

@@ -2,7 +2,7 @@
 ghost use Rattle.std.specs.Prelude.{◌≤◌, filter};
 ghost use Rattle.ac_util.specs.Listing.{all, places_at, places_ending_at};
 ghost use Rattle.ac_util.specs.Plain.{Adds, AnswersItems};
-ghost use Rattle.ac_util.specs.Search.{occurs};
+ghost use Rattle.ac_util.specs.Occurrence.{occurs};
 
 use super::Query;
 use crate::search::Match;

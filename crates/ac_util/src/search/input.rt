@@ -26,8 +26,7 @@ pub struct Input<'h> {
 }
 
 impl<'h> Input<'h> {
-    ghost use Rattle.ac_util.specs.InputView.{IsLegal, whole_input};
-    ghost use Rattle.ac_util.specs.Inputs.{input_of};
+    ghost use Rattle.ac_util.specs.Input.{IsLegal, whole_input, input_of};
 
     /// Returns an input that searches a whole haystack, unanchored and not for the earliest end. This ports
     /// `Input::new`.

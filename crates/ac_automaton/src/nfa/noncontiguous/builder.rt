@@ -1,6 +1,6 @@
 //! Builds of a noncontiguous NFA.
 ghost use Rattle.std.specs.Prelude.{◌≡◌};
-ghost use Rattle.ac_util.specs.Borrowed.{bytes_of};
+ghost use Rattle.ac_util.specs.Patterns.{bytes_of};
 ghost use Rattle.ac_automaton.specs.Builds.{BuildsNoncontiguous, usual_engine_settings};
 
 use super::NFA;

@@ -2,7 +2,7 @@
 ghost use Rattle.std.specs.Prelude.{◌≡◌, ◌≢◌, ℕ, ◌+◌, ◌<◌, ◌≤◌, List};
 ghost use Rattle.ac_automaton.specs.Util.{depth, Node, state_count};
 ghost use Rattle.ac_automaton.specs.Automata.{plain_of};
-ghost use Rattle.ac_automaton.specs.Readers.{AreNodes, ForNode, HasOwn, IsFailureOf, IsOwnOf, own_len_of};
+ghost use Rattle.ac_automaton.specs.Tries.{AreNodes, ForNode, HasOwn, IsFailureOf, IsOwnOf, own_len_of};
 
 use super::{ANCHORED_START, FIRST_INNER, NFA};
 use ac_util::patterns::Patterns;

@@ -1,6 +1,6 @@
 //! Builds of a contiguous NFA.
 ghost use Rattle.std.specs.Prelude.{◌≡◌};
-ghost use Rattle.ac_util.specs.Borrowed.{bytes_of};
+ghost use Rattle.ac_util.specs.Patterns.{bytes_of};
 ghost use Rattle.ac_automaton.specs.Builds.{fits};
 ghost use Rattle.ac_engines.specs.Contiguous.Builds.{AnswersContiguousFrom, BuildsContiguous, contiguous_refusal, usual_contiguous_settings};
 

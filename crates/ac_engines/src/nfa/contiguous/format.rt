@@ -1,8 +1,8 @@
 //! The forms in which states are packed, and how many words they take.
 ghost use Rattle.std.specs.Prelude.{◌≡◌, ◌<◌, ◌≤◌};
 ghost use Rattle.ac_automaton.specs.Util.{StateIdOverflow};
-ghost use Rattle.ac_engines.specs.Contiguous.Formats.{format_of, words_of_state};
-ghost use Rattle.ac_engines.specs.Numbering.{AnswersSize};
+ghost use Rattle.ac_engines.specs.Contiguous.Words.{format_of, words_of_state};
+ghost use Rattle.ac_engines.specs.Listed.{AnswersSize};
 
 use ac_util::error::BuildError;
 use ac_util::primitives::StateID;

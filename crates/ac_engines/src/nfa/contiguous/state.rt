@@ -1,6 +1,6 @@
 //! Reading the words of a state.
 ghost use Rattle.std.specs.Prelude.{◌≡◌, ◌≢◌, ◌+◌, ◌<◌, ◌≤◌, [], drop, length};
-ghost use Rattle.ac_util.specs.Counts.{more_looks};
+ghost use Rattle.ac_util.specs.Input.{more_looks};
 ghost use Rattle.ac_engines.specs.declared.nfa.contiguous.format.Format.{Format};
 ghost use Rattle.ac_engines.specs.Contiguous.Words.{AreMatchWords, AreNamed, BeginSparse, BeginWithState, BeginsWith, EachState, SomeStateOf, IsPlaceIn, LeadsBy, MatchesAt, PackedState, SomeState, SparseLeadsBy, StateOf, transitions_of_state};
 

@@ -1,7 +1,7 @@
 use Rattle.std.proofs.Common.{◌≡◌, ◌≢◌, [], ◌∷◌, ap, subst, sym, length, arith}
 use Rattle.std.proofs.lemmas.List.Elements.{All-nil, All-cons}
 use Rattle.std.specs.Str.{IsUtf8}
-use Rattle.ac_search.specs.Texts.{AreTexts}
+use Rattle.ac_search.specs.Built.{AreTexts}
 use Rattle.ac_search.proofs.tests.matches_of_texts_cut_no_character.Goals as goal
 
 pub parts_of-requires-clause-texts : goal.parts_of-requires-clause-texts

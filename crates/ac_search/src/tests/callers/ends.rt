@@ -1,7 +1,7 @@
 //! Callers with loops of their own over `next`, which end by a law, and which ask once more after the end.
 ghost use Rattle.std.specs.Prelude.{◌≡◌, None};
 ghost use Rattle.ac_search.specs.Built.{find_refusal};
-ghost use Rattle.ac_search.specs.Inputs.{input_of};
+ghost use Rattle.ac_search.specs.Input.{input_of};
 
 use crate::laws::{ended_iterators_stay_ended, iterators_end};
 use crate::tests::devices::{ALWAYS, Pieces};

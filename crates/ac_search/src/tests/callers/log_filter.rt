@@ -1,9 +1,9 @@
 //! A caller that keeps the lines of a log in which something occurs.
 ghost use Rattle.std.specs.Prelude.{◌≡◌, IfOk, None, filter, is_some};
 ghost use Rattle.std.specs.Str.Lines.{lines};
-ghost use Rattle.ac_search.specs.Borrowed.{bytes_of};
+ghost use Rattle.ac_search.specs.Patterns.{bytes_of};
 ghost use Rattle.ac_search.specs.Built.{find_refusal, find_result};
-ghost use Rattle.ac_search.specs.InputView.{whole_input};
+ghost use Rattle.ac_search.specs.Input.{whole_input};
 
 use crate::tests::same;
 use crate::{AhoCorasick, Input};

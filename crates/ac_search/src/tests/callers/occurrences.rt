@@ -15,8 +15,8 @@ struct Occurrences<'s, 'h> {
 impl<'s, 'h> Model for Occurrences<'s, 'h> {
     ghost use Rattle.std.specs.Prelude.{◌≡◌, None};
     ghost use Rattle.ac_search.specs.Built.{overlapping_refusal};
-    ghost use Rattle.ac_search.specs.Inputs.{input_of};
-    ghost use Rattle.ac_search.specs.Places.{HasPlace};
+    ghost use Rattle.ac_search.specs.Input.{input_of};
+    ghost use Rattle.ac_search.specs.Searchers.{HasPlace};
 
     ghost Value = { Unit {0} };
 

@@ -1,7 +1,7 @@
 //! A caller that covers matches with stars.
 ghost use Rattle.std.specs.Prelude.{◌≡◌, IfOk, None, length};
 ghost use Rattle.ac_search.specs.Built.{find_refusal};
-ghost use Rattle.ac_search.specs.InputView.{whole_input};
+ghost use Rattle.ac_search.specs.Input.{whole_input};
 
 use crate::laws::answers_lie_inside;
 use crate::tests::same;

@@ -1,7 +1,7 @@
 //! A caller that keeps something of each match.
 ghost use Rattle.std.specs.Prelude.{◌≡◌, IfOk, None, map};
 ghost use Rattle.ac_search.specs.Built.{find_refusal, walk_result};
-ghost use Rattle.ac_search.specs.InputView.{whole_input};
+ghost use Rattle.ac_search.specs.Input.{whole_input};
 
 use crate::tests::same;
 use crate::{AhoCorasick, Input};

@@ -1,7 +1,7 @@
 //! A caller that cuts a haystack into matches and what stands between them.
 ghost use Rattle.std.specs.Prelude.{◌≡◌, ◌++◌, IfOk, None, flat_map};
 ghost use Rattle.ac_search.specs.Built.{find_refusal};
-ghost use Rattle.ac_search.specs.InputView.{whole_input};
+ghost use Rattle.ac_search.specs.Input.{whole_input};
 
 use crate::laws::matches_stand_in_order;
 use crate::tests::same;

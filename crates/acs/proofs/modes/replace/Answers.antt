@@ -1,5 +1,5 @@
 use Rattle.std.proofs.Common.{rules}
-use Rattle.ac_search.specs.Borrowed.{bytes_of}
+use Rattle.ac_search.specs.Patterns.{bytes_of}
 use Rattle.acs.specs.Requests.{seconds}
 use Rattle.acs.proofs.ModeEnds.{replaced-ends}
 use Rattle.acs.proofs.Pairs.{texts-fit}

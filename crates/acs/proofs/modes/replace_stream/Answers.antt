@@ -1,6 +1,6 @@
 use Rattle.std.proofs.Common.{◌∙◌, ℕ, List, ap, inl, inr, refl, subst, rules}
-use Rattle.ac_search.specs.Borrowed.{bytes_of}
-use Rattle.ac_search.specs.StreamReplacing.{FailsToReplace}
+use Rattle.ac_search.specs.Patterns.{bytes_of}
+use Rattle.ac_search.specs.Stream.{FailsToReplace}
 use Rattle.acs.specs.declared.request.Mode.TheVariants.{StreamReplace}
 use Rattle.acs.specs.Faults.{stream_fault_of}
 use Rattle.acs.specs.Modes.{FailsToAnswer}

@@ -1,7 +1,7 @@
 use Rattle.std.proofs.Common.{◌-◌}
 use Rattle.acs.proofs.Streaming.{IsPrintingStream}
 use Rattle.acs.proofs.output.print_stream.Given as goal
-use Rattle.ac_search.specs.Sizes.{usize_max}
+use Rattle.ac_search.specs.Patterns.{usize_max}
 
 -- the lines of all matches so far are written
 abbrev pub invariant-loop-item : goal.invariant-loop-item

@@ -1,7 +1,6 @@
 use Rattle.std.proofs.Common.{◌≡◌, ℕ}
 use Rattle.std.specs.Slice.Iter.{chunks_exact_rest, chunks_exact_size}
-use Rattle.ac_search.specs.Borrowed.{bytes_of}
-use Rattle.ac_search.specs.Limits.{limit_refusal, too_long_from}
+use Rattle.ac_search.specs.Patterns.{bytes_of, limit_refusal, too_long_from}
 use Rattle.acs.specs.Requests.{firsts}
 use Rattle.acs.proofs.request.check_firsts.Given as goal
 

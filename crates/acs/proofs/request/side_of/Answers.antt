@@ -1,6 +1,6 @@
 use Rattle.std.proofs.Common.{◌≡◌, ◌∙◌, arith}
 use Rattle.std.specs.Slice.Iter.{chunks_exact_rest, chunks_exact_size}
-use Rattle.ac_search.specs.Borrowed.{bytes_of}
+use Rattle.ac_search.specs.Patterns.{bytes_of}
 use Rattle.acs.specs.Requests.{side}
 use Rattle.acs.proofs.Pairs.{side-pair, gathered-more}
 use Rattle.acs.proofs.request.side_of.Goals as goal

@@ -1,6 +1,6 @@
 use Rattle.std.proofs.Common.{◌≡◌, ◌++◌}
 use Rattle.std.specs.Slice.Iter.{chunks_exact_rest, chunks_exact_size}
-use Rattle.ac_search.specs.Borrowed.{bytes_of}
+use Rattle.ac_search.specs.Patterns.{bytes_of}
 use Rattle.acs.specs.Requests.{side}
 use Rattle.acs.proofs.request.side_of.Given as goal
 

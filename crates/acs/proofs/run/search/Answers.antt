@@ -1,4 +1,4 @@
-use Rattle.ac_search.specs.Borrowed.{bytes_of}
+use Rattle.ac_search.specs.Patterns.{bytes_of}
 use Rattle.acs.proofs.Serving.{run-by, serves}
 use Rattle.acs.proofs.run.search.Goals as goal
 

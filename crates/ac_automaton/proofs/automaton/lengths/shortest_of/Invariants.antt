@@ -1,6 +1,6 @@
 -- The shortest so far and that of the patterns left give the shortest of all.
 use Rattle.std.proofs.Common.{◌≡◌, ◌≤◌, drop, min}
-use Rattle.ac_util.specs.Sizes.{shortest_len}
+use Rattle.ac_util.specs.Patterns.{shortest_len}
 use Rattle.ac_automaton.proofs.automaton.lengths.shortest_of.Given as goal
 use Rattle.ac_automaton.specs.Util.{usize_max}
 

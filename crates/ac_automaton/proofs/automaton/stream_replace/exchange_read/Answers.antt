@@ -1,6 +1,5 @@
-use Rattle.std.proofs.lemmas.Grind.{common_steps}
-use Rattle.std.proofs.Common.{◌≡◌, ◌∙◌, ◌+◌, ℕ, List, Some, None, Ok, Err, take, sym, ap, subst, slice_range, rules, arith}
-use Rattle.ac_automaton.specs.Prelude.{GivesMatch, HasGivenSettled, IsSettledIn, matches_so_far, PassesPiece, Steps, Streaming}
+use Rattle.std.proofs.Common.{◌≡◌, ◌∙◌, ◌+◌, ℕ, List, Some, None, Ok, Err, take, sym, ap, subst, slice_range, rules}
+use Rattle.ac_automaton.specs.Prelude.{GivesMatch, IsSettledIn, matches_so_far, PassesPiece, Steps, Streaming}
 use Rattle.ac_automaton.proofs.Places.{refused-by}
 use Rattle.ac_automaton.proofs.StreamExchanging.{exchange-fails, gap-fails, last-fails, last-flushed, replaced-match}
 use Rattle.ac_automaton.proofs.automaton.stream_replace.exchange_read.Given.{Over}

@@ -20,20 +20,32 @@ loop-byte-preserved c = search (rules, else-marks-plain_byte, filter-fails, filt
 -- one is marked
 pub returns-in-1 : goal.returns-in-1
 returns-in-1 c =
-    grind (arith, common_steps, first_ones c.loop-byte.bytes c.loop-byte.invariant.whole,
-      noted_all c.args.ignores_case c.args.marks.now c.loop-byte.bytes c.loop-byte.count 1 c.loop-byte.byte (omega arith) c.in-1.is c.loop-byte.invariant.noted)
+    grind (
+      arith,
+      common_steps,
+      first_ones c.loop-byte.bytes c.loop-byte.invariant.whole,
+      noted_all c.args.ignores_case c.args.marks.now c.loop-byte.bytes c.loop-byte.count 1 c.loop-byte.byte (omega arith) c.in-1.is c.loop-byte.invariant.noted,
+    )
 
 -- two are
 pub returns-in-2 : goal.returns-in-2
 returns-in-2 c =
-    grind (arith, common_steps, first_ones c.loop-byte.bytes c.loop-byte.invariant.whole,
-      noted_all c.args.ignores_case c.args.marks.now c.loop-byte.bytes c.loop-byte.count 2 c.loop-byte.byte (omega arith) c.in-2.is c.loop-byte.invariant.noted)
+    grind (
+      arith,
+      common_steps,
+      first_ones c.loop-byte.bytes c.loop-byte.invariant.whole,
+      noted_all c.args.ignores_case c.args.marks.now c.loop-byte.bytes c.loop-byte.count 2 c.loop-byte.byte (omega arith) c.in-2.is c.loop-byte.invariant.noted,
+    )
 
 -- three are
 pub returns-in-3 : goal.returns-in-3
 returns-in-3 c =
-    grind (arith, common_steps, first_ones c.loop-byte.bytes c.loop-byte.invariant.whole,
-      noted_all c.args.ignores_case c.args.marks.now c.loop-byte.bytes c.loop-byte.count 3 c.loop-byte.byte (omega arith) c.in-3.is c.loop-byte.invariant.noted)
+    grind (
+      arith,
+      common_steps,
+      first_ones c.loop-byte.bytes c.loop-byte.invariant.whole,
+      noted_all c.args.ignores_case c.args.marks.now c.loop-byte.bytes c.loop-byte.count 3 c.loop-byte.byte (omega arith) c.in-3.is c.loop-byte.invariant.noted,
+    )
 
 -- none is
 pub returns-in_default : goal.returns-in_default

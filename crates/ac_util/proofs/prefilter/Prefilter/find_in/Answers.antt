@@ -1,6 +1,4 @@
-use Rattle.std.proofs.lemmas.Grind.{common_steps}
-use Rattle.std.proofs.Common.{rules, arith}
-use Rattle.ac_util.specs.Prefilters.{skip_of}
+use Rattle.std.proofs.Common.{rules}
 use Rattle.ac_util.proofs.Skips.{promised, says-nothing}
 use Rattle.ac_util.proofs.prefilter.Prefilter.find_in.Goals as goal
 

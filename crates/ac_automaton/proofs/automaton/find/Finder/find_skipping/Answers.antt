@@ -1,7 +1,5 @@
-use Rattle.std.proofs.lemmas.Grind.{common_steps}
-use Rattle.std.proofs.Common.{◌≡◌, refl, subst, Option, IfSome, arith, rules}
-use Rattle.std.specs.Borrow.{Bor}
-use Rattle.ac_automaton.specs.Util.{No, Prefilter, skip_of}
+use Rattle.std.proofs.Common.{◌≡◌, refl, subst, arith, rules}
+use Rattle.ac_automaton.specs.Util.{No, skip_of}
 use Rattle.ac_automaton.specs.Prelude.{FindsIn, Finding, MayBegin, scan_of, Skips}
 use Rattle.ac_automaton.proofs.FindLoop.{searched-nothing}
 use Rattle.ac_automaton.proofs.FindSkipping.{finds-in, finds-passed, may-advance, may-find-first, may-find-passed, skip-some}

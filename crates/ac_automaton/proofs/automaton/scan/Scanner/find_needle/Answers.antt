@@ -1,5 +1,5 @@
 use Rattle.std.proofs.lemmas.Grind.{common_steps}
-use Rattle.std.proofs.Common.{arith, rules}
+use Rattle.std.proofs.Common.{arith}
 use Rattle.ac_automaton.proofs.FindSkipping.{finds-needle, finds-passed, may-advance, may-find-passed, skip-some}
 use Rattle.ac_automaton.proofs.ReadAhead.{along-passed, comes-advances, comes-on, comes-start, may-go-on}
 use Rattle.ac_automaton.proofs.automaton.scan.Scanner.find_needle.Goals as goal
@@ -18,8 +18,12 @@ read_rest-requires g c = may-go-on (may-advance c.requires.begins) c.loop-cursor
 
 pub is_match_or_dead-requires : goal.is_match_or_dead-requires
 is_match_or_dead-requires g c =
-    grind (arith, common_steps, may-go-on (may-advance c.requires.begins) c.loop-cursor.invariant,
-      may-advance c.requires.begins)
+    grind (
+      arith,
+      common_steps,
+      may-go-on (may-advance c.requires.begins) c.loop-cursor.invariant,
+      may-advance c.requires.begins,
+    )
 
 pub loop-cursor-preserved : goal.loop-cursor-preserved
 loop-cursor-preserved g c =

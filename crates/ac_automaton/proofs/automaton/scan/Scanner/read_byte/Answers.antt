@@ -1,5 +1,5 @@
 use Rattle.std.proofs.Common.{◌≡◌, ◌<◌, ◌⊎◌, ℕ, List, length, slice_index, ap, sym, subst, ◌∙◌, arith}
-use Rattle.ac_util.specs.Counts.{Taped}
+use Rattle.ac_util.specs.Input.{Taped}
 use Rattle.ac_automaton.proofs.ReadOn.{at-next, scans-byte}
 use Rattle.ac_automaton.proofs.automaton.scan.Scanner.read_byte.Goals as goal
 

@@ -1,7 +1,6 @@
-use Rattle.std.proofs.lemmas.Grind.{common_steps}
 use Rattle.std.proofs.Common.{◌≡◌, ◌-◌, ℕ, true, ap, sym, subst, ◌∙◌, arith, Some, rules}
 use Rattle.ac_util.specs.Occurrence.{Occurrence, occurrence}
-use Rattle.ac_automaton.specs.Prelude.{in_memory, is_due, Scan, scan_of}
+use Rattle.ac_automaton.specs.Prelude.{in_memory, Scan, scan_of}
 use Rattle.ac_automaton.specs.Overlaps.{HasGivenItem}
 use Rattle.ac_automaton.proofs.Due.{counts}
 use Rattle.ac_automaton.proofs.ListLoop.{due-short, gives-first}

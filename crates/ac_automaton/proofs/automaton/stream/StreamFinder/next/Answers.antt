@@ -1,10 +1,7 @@
-use Rattle.std.proofs.Common.{◌≤◌, ◌++◌, ℕ, List, [], length, length-append, sym, subst, arith, rules}
-use Rattle.std.proofs.KnownBytes.{Consumes-nil}
+use Rattle.std.proofs.Common.{length-append, arith, rules}
 use Rattle.std.proofs.lemmas.List.{append-nil}
 use Rattle.std.proofs.lemmas.Grind.{common_steps}
-use Rattle.ac_automaton.specs.Util.{usize_max}
 use Rattle.ac_util.proofs.Devices.{fails-on}
-use Rattle.ac_automaton.specs.Prelude.{Streaming}
 use Rattle.ac_automaton.proofs.StreamEnds.{gives-last}
 use Rattle.ac_automaton.proofs.StreamFilling.{failed-as}
 use Rattle.ac_automaton.proofs.automaton.stream.StreamFinder.next.Goals as goal

@@ -1,5 +1,4 @@
-use Rattle.std.proofs.lemmas.Grind.{common_steps}
-use Rattle.std.proofs.Common.{◌≡◌, ◌≢◌, ◌⊎◌, ◌↔◌, ◌∙◌, ◌+◌, ◌-◌, Bool, true, false, List, ℕ, None, inl, inr, refl, length, sym, ap, arith, rules}
+use Rattle.std.proofs.Common.{◌≡◌, ◌≢◌, ◌⊎◌, ◌↔◌, ◌∙◌, ◌+◌, ◌-◌, Bool, true, false, List, ℕ, None, inl, inr, refl, length, ap, arith, rules}
 use Rattle.std.proofs.lemmas.Bool.{false≢true}
 use Rattle.ac_automaton.specs.Util.{No, Node, Taped}
 use Rattle.ac_automaton.specs.Prelude.{Ended, Failed, HasReadOn, Inside, IsAnswered, Streaming}
@@ -9,7 +8,7 @@ use Rattle.ac_automaton.proofs.StreamKeeping.{gives-settled, streams-on}
 use Rattle.ac_automaton.proofs.StreamLoop.{has-searched, may-search}
 use Rattle.ac_automaton.proofs.StreamText.{node_there, tape-is}
 use Rattle.ac_automaton.proofs.automaton.stream.StreamFinder.next_read.Given.{Over}
-use Rattle.ac_automaton.proofs.automaton.stream.StreamFinder.next_read.Goals.{After-pick_on-picked, in-Failed, in_default}
+use Rattle.ac_automaton.proofs.automaton.stream.StreamFinder.next_read.Goals.{After-pick_on-picked}
 use Rattle.ac_automaton.proofs.automaton.stream.StreamFinder.next_read.Goals as goal
 
 pub pick_on-picked-requires : goal.pick_on-picked-requires

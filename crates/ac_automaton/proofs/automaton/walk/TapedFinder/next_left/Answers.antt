@@ -10,5 +10,8 @@ overflow_add-further g c = grind (arith, common_steps, repeated c.args.last c.fi
 -- the second find goes on with the tape of the first
 pub find-requires : goal.find-requires
 find-requires g c =
-    search (rules, repeated,
-      repeated c.args.last c.find-first.ensures.found c.requires.beyond (sym c.repeats.ensures ∙ c.if-not-repeats.false))
+    search (
+      rules,
+      repeated,
+      repeated c.args.last c.find-first.ensures.found c.requires.beyond (sym c.repeats.ensures ∙ c.if-not-repeats.false),
+    )

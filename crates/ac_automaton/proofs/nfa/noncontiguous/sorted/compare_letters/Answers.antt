@@ -4,7 +4,7 @@ use Rattle.std.specs.Ordering.{nat_cmp}
 use Rattle.std.proofs.lemmas.Iterator.{YieldsList-from_slice, YieldsList-from_map}
 use Rattle.std.specs.Iterator.Adapters.{map_callee}
 use Rattle.std.proofs.lemmas.Iterator.Search.{cmp_from_yields_List}
-use Rattle.ac_util.specs.Sameness.{plain_byte}
+use Rattle.ac_util.specs.Occurrence.{plain_byte}
 use Rattle.ac_automaton.proofs.nfa.noncontiguous.sorted.compare_letters.Goals as goal
 
 pub returns : goal.returns

@@ -1,7 +1,6 @@
 -- One more byte is added, for which there is room.
 use Rattle.std.proofs.lemmas.Grind.{common_steps}
-use Rattle.std.proofs.Common.{◌+◌, ◌*◌, ◌<◌, sym, ap, ◌∙◌, arith, slice_index_or, rules}
-use Rattle.ac_automaton.specs.Util.{plain}
+use Rattle.std.proofs.Common.{arith, rules}
 use Rattle.ac_automaton.proofs.PatternHeads.{head-bound, head-fits, head_of-zero, head_of-push}
 use Rattle.ac_automaton.proofs.ReadOn.{below_next}
 use Rattle.ac_automaton.proofs.nfa.noncontiguous.sorted.head_of.Goals as goal

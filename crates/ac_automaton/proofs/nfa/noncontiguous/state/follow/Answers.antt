@@ -4,7 +4,7 @@ use Rattle.ac_automaton.specs.Prelude.{HasState, TrieView, Represents, IsRootEnt
 use Rattle.ac_automaton.specs.Util.{No, Node, Yes}
 use Rattle.ac_automaton.proofs.Follows.{Ended, represented, ends-root, ends-target, ends-anchored, ends-outer, goes-on, leads-inner}
 use Rattle.ac_automaton.proofs.nfa.noncontiguous.state.follow.Goals as goal
-use Rattle.ac_automaton.proofs.nfa.noncontiguous.state.follow.Goals.{in-Yes, in-No, in_default, in_default-matches, After-index-states-as_usize, After-look_in_root, After-must, In-Some-look, Then-as_usize-lt-FIRST_INNER}
+use Rattle.ac_automaton.proofs.nfa.noncontiguous.state.follow.Goals.{in-Yes, in_default-matches, After-index-states-as_usize, After-look_in_root, After-must, In-Some-look, Then-as_usize-lt-FIRST_INNER}
 
 pub bounds-states-as_usize : goal.bounds-states-as_usize
 bounds-states-as_usize c =

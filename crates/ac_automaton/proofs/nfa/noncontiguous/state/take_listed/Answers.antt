@@ -1,5 +1,4 @@
-use Rattle.std.proofs.lemmas.Grind.{common_steps}
-use Rattle.std.proofs.Common.{◌≡◌, ◌+◌, arith, sym, subst, ap, ◌∙◌, List, ℕ, get_or, length, rules}
+use Rattle.std.proofs.Common.{◌≡◌, ◌+◌, arith, sym, subst, ◌∙◌, List, ℕ, get_or, rules}
 use Rattle.ac_util.specs.Node.{Node}
 use Rattle.ac_automaton.specs.Tries.{Represents}
 use Rattle.ac_automaton.proofs.Follows.{represented}

@@ -1,5 +1,5 @@
 use Rattle.std.proofs.Common.{◌≡◌, ◌∙◌}
-use Rattle.ac_automaton.specs.Common.{common_of}
+use Rattle.ac_automaton.specs.Automata.{common_of}
 use Rattle.ac_engines.specs.Dfa.Filling.{first_row_in}
 use Rattle.ac_engines.proofs.Assembled.{are-table, has-matches-among, may-fill, planned}
 use Rattle.ac_engines.proofs.dfa.builder.Builder.build_from_noncontiguous.Goals as goal

@@ -1,5 +1,4 @@
-use Rattle.std.proofs.lemmas.Grind.{common_steps}
-use Rattle.std.proofs.Common.{◌≡◌, ℕ, ◌+◌, List, length, None, ap, sym, refl, ◌∙◌, rules, arith}
+use Rattle.std.proofs.Common.{◌≡◌, ℕ, ◌+◌, List, length, None, ap, sym, refl, ◌∙◌, rules}
 use Rattle.ac_util.specs.declared.search.Anchored.{Anchored}
 use Rattle.ac_automaton.specs.Util.{Both, No, Node, start_refusal, StartKind, Unanchored, Yes}
 use Rattle.ac_util.specs.declared.search.StartKind.TheVariants.{Anchored as AnchoredAlone}
@@ -31,8 +30,14 @@ first : (f : Filling) (sid : ℕ) (old between : List ℕ) → f.start_kind ≡ 
     → (nodes : List Node) (w : List ℕ) → HasRow f nodes (length old) sid w → FilledUpTo f nodes (length old) sid old
     → HasFilled (row_input f nodes) No w old between × MayFillRow f nodes (length between) sid w Yes between
 first f sid old between is filled nodes w row up =
-    search (rules, may, one, second-row, may f sid old Both is No refl nodes w row up,
-      may f sid old Both is Yes refl nodes w row up)
+    search (
+      rules,
+      may,
+      one,
+      second-row,
+      may f sid old Both is No refl nodes w row up,
+      may f sid old Both is Yes refl nodes w row up,
+    )
 
 pub fill_row-requires : goal.fill_row-requires
 fill_row-requires g c =

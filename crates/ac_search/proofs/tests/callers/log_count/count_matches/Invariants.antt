@@ -1,5 +1,5 @@
 use Rattle.std.proofs.Common.{◌≡◌, ◌-◌}
-use Rattle.ac_search.specs.Sizes.{usize_max}
+use Rattle.ac_search.specs.Patterns.{usize_max}
 use Rattle.ac_search.proofs.StreamCounts.{IsCounting}
 use Rattle.ac_search.proofs.tests.callers.log_count.count_matches.Given as goal
 

@@ -2,7 +2,7 @@ use Rattle.std.proofs.Common.{rules, tests, is_some}
 use Rattle.std.proofs.lemmas.Iterator.Consumers.{map_from_collect, YieldsList-from_filter, YieldsList-at}
 use Rattle.std.proofs.lemmas.Iterator.Splits.{YieldsList-from_lines}
 use Rattle.ac_search.specs.Built.{find_result}
-use Rattle.ac_search.specs.InputView.{whole_input}
+use Rattle.ac_search.specs.Input.{whole_input}
 use Rattle.ac_search.proofs.tests.callers.log_filter.lines_with_a_match.Goals as goal
 
 pub returns : goal.returns

@@ -1,7 +1,7 @@
 -- The starts so far, and those of the matches still to come, are those of the walk.
 use Rattle.std.proofs.Common.{◌≡◌, ◌++◌, map}
 use Rattle.ac_search.specs.Built.{walk_result}
-use Rattle.ac_search.specs.InputView.{whole_input}
+use Rattle.ac_search.specs.Input.{whole_input}
 use Rattle.ac_search.proofs.tests.callers.starts.starts_of.Given as goal
 
 abbrev pub invariant-loop-m : goal.invariant-loop-m

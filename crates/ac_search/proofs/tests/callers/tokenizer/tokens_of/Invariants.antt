@@ -1,5 +1,5 @@
 use Rattle.std.proofs.Common.{◌≡◌, ◌≤◌, ◌++◌, drop, flat_map, length}
-use Rattle.ac_search.specs.Order.{StandInOrder}
+use Rattle.ac_search.specs.Alike.{StandInOrder}
 use Rattle.ac_search.proofs.tests.callers.tokenizer.tokens_of.Given as goal
 
 -- the tokens so far, and then the rest of the haystack, are the haystack

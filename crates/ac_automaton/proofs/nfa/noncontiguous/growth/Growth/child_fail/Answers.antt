@@ -5,7 +5,6 @@ use Rattle.ac_automaton.specs.Prelude.{grown_view, fallback, nodes_of, word}
 use Rattle.ac_automaton.proofs.Places.{None-tested, Some-tested}
 use Rattle.ac_automaton.proofs.ChildFails.{fail-pattern, fail-start, fail-step, fail-state}
 use Rattle.ac_automaton.proofs.nfa.noncontiguous.growth.Growth.child_fail.Goals as goal
-use Rattle.ac_automaton.proofs.nfa.noncontiguous.growth.Growth.child_fail.Goals.{else-is_leftmost-via-then-is_leftmost+else-is_none, else-is_leftmost-via-else-is_leftmost}
 
 pub returns-then-is_none-clause-fails : goal.returns-then-is_none-clause-fails
 returns-then-is_none-clause-fails g c = λ patterns h.

@@ -5,7 +5,7 @@ use Rattle.std.proofs.lemmas.Grind.{common_steps}
 use Rattle.ac_engines.specs.Prelude.{has_matches, MayPack, Packer, PackPlan, state_words}
 use Rattle.ac_engines.proofs.PlanSums.{has-words, named-below, plan-states}
 use Rattle.ac_engines.proofs.Pushing.{HasPushedUpTo, passed-over, pushed-all, pushed-next, pushed-none}
-use Rattle.ac_engines.proofs.nfa.contiguous.pack.Packer.push_where.Goals.{After-must-sid, then-is_match-front+in_ok-push, else-is_match-front}
+use Rattle.ac_engines.proofs.nfa.contiguous.pack.Packer.push_where.Goals.{then-is_match-front+in_ok-push, else-is_match-front}
 use Rattle.ac_engines.proofs.nfa.contiguous.pack.Packer.push_where.Goals as goal
 
 -- nothing is pushed at first
