@@ -50,13 +50,20 @@ const CLASSES_AND_PREFILTERS: [(bool, bool); 4] = [
 ];
 
 /// The dense depths up to 6, one that a byte doesn't count, and the greatest.
-const DENSE_DEPTHS: [usize; 9] = [0, 1, 2, 3, 4, 5, 6, 300, usize::MAX];
+const DENSE_DEPTHS: &[usize] = &[0, 1, 2, 3, 4, 5, 6, 300, usize::MAX];
 
-/// Returns each engine with each dense depth, with classes and without, and with a prefilter and without.
+/// The least and the greatest, for engines in which they have no effect.
+const UNFELT_DEPTHS: &[usize] = &[0, usize::MAX];
+
+/// Returns each engine with each dense depth that it may feel, with classes and without, and with a prefilter and without.
 pub(super) fn engines(alloc: Global) -> Result<Vec<Engine>, AllocError> {
     let mut engines = Vec::new(alloc);
     for kind in KINDS {
-        for dense_depth in DENSE_DEPTHS {
+        let depths = match kind {
+            Some(ContiguousNFA) => DENSE_DEPTHS,
+            _ => UNFELT_DEPTHS,
+        };
+        for &dense_depth in depths {
             for (byte_classes, prefilter) in CLASSES_AND_PREFILTERS {
                 engines.push(Engine {
                     kind,
