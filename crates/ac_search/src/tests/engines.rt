@@ -25,16 +25,18 @@ pub(super) struct Engine {
     prefilter: bool,
 }
 
-/// The usual settings, by which a searcher chooses.
-pub(super) const USUAL: Engine = Engine {
-    kind: None,
-    dense_depth: 2,
-    byte_classes: true,
-    prefilter: true,
-};
+/// Returns the usual settings of an engine.
+pub(super) fn usual(kind: Option<AhoCorasickKind>) -> Engine {
+    Engine {
+        kind,
+        dense_depth: 2,
+        byte_classes: true,
+        prefilter: true,
+    }
+}
 
 /// The engines, and that one is chosen.
-const KINDS: [Option<AhoCorasickKind>; 4] = [
+pub(super) const KINDS: [Option<AhoCorasickKind>; 4] = [
     None,
     Some(NoncontiguousNFA),
     Some(ContiguousNFA),

@@ -2,7 +2,7 @@
 ghost use Rattle.std.specs.Prelude.{◌≡◌, length};
 
 use super::devices::{ALWAYS, End, FORMS, Few, Form, end_of, exchanged_by, item_of};
-use super::engines::{EACH, fewer_engines};
+use super::engines::{EACH, KINDS, usual};
 use super::stream::searcher_by;
 use super::{Triple, same_by};
 use crate::{AhoCorasick, Bytes, FromRead, Match, StreamError};
@@ -140,7 +140,8 @@ fn exchanged_from(
 
 #[test]
 fn a_reader_ends_a_stream_at_once(rt: HostRuntime) -> Result<(), Fail> {
-    for engine in &fewer_engines(rt.alloc())? {
+    for engine in KINDS {
+        let engine = &usual(engine);
         for &kind in EACH {
             let searcher = searcher_by(rt, &[b"abc"], kind, engine)?;
             for (answers, found, text, end, calls) in ROWS {

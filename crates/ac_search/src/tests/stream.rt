@@ -6,7 +6,7 @@ use super::devices::{
     ALWAYS, End, FORMS, Few, Form, Pieces, READ, WRITE, compare_items, end_of, exchanged_by,
     iterators_of,
 };
-use super::engines::{EACH, Engine, USUAL, builder_of, fewer_engines};
+use super::engines::{EACH, Engine, KINDS, builder_of, fewer_engines, usual};
 use super::leftmost_stream::{NESTED, TEXTS};
 use super::{same, same_by};
 use crate::MatchKind::{LeftmostFirst, LeftmostLongest, Standard};
@@ -157,9 +157,9 @@ fn compare_beginnings(
 /// A closure doesn't see that a writer took nothing: the next write of the call itself does.
 #[test]
 fn each_write_fails_or_takes_nothing_in_turn(rt: HostRuntime) -> Result<(), Fail> {
-    for engine in &fewer_engines(rt.alloc())? {
+    for engine in KINDS {
         for (kind, whole) in EXCHANGED {
-            let searcher = searcher_by(rt, NESTED, kind, engine)?;
+            let searcher = searcher_by(rt, NESTED, kind, &usual(engine))?;
             for form in FORMS {
                 for fails in [true, false] {
                     compare_beginnings(&rt, rt.alloc(), &searcher, whole, form, fails);
@@ -229,12 +229,12 @@ fn a_match_begins_where_a_buffer_ends(rt: HostRuntime) -> Result<(), Fail> {
     stream.resize(65_535, b'x')?;
     stream.extend_from_slice(b"abc")?;
     let wanted = [Some(Some((0, 65_535, 65_538))), None, None];
-    let searcher = searcher_by(rt, &[b"abc"], Standard, &USUAL)?;
+    let searcher = searcher_by(rt, &[b"abc"], Standard, &usual(None))?;
     for mut matches in iterators_of(rt.alloc(), &searcher, &stream, 1, ALWAYS)? {
         compare_items(&rt, &mut matches, &wanted);
     }
-    for engine in &fewer_engines(rt.alloc())? {
-        let searcher = searcher_by(rt, &[b"abc"], Standard, engine)?;
+    for engine in KINDS {
+        let searcher = searcher_by(rt, &[b"abc"], Standard, &usual(engine))?;
         for mut matches in iterators_of(rt.alloc(), &searcher, &stream, ALWAYS, ALWAYS)? {
             compare_items(&rt, &mut matches, &wanted);
         }
@@ -268,6 +268,15 @@ fn pattern_of(alloc: Global, len: usize) -> Result<Vec<u8>, AllocError> {
     Ok(pattern)
 }
 
+/// Returns how many bytes a reader gives at once: under one kind few, about as many as a buffer holds, and all, and under the
+/// others all.
+fn cuts_of(kind: MatchKind) -> &'static [usize] {
+    match kind {
+        LeftmostLongest => &[1, 65_535, 65_536, 65_537, ALWAYS],
+        _ => &[ALWAYS],
+    }
+}
+
 /// A match may span two buffers.
 #[test]
 fn long_patterns_have_long_buffers(rt: HostRuntime) -> Result<(), Fail> {
@@ -278,8 +287,8 @@ fn long_patterns_have_long_buffers(rt: HostRuntime) -> Result<(), Fail> {
         let first = Some(Some((0, before, between)));
         let second = Some(Some((0, between, stream.len())));
         for &kind in EACH {
-            let searcher = searcher_by(rt, &[pattern.as_slice()], kind, &USUAL)?;
-            for most in [1, 7, 65_535, 65_536, 65_537, ALWAYS] {
+            let searcher = searcher_by(rt, &[pattern.as_slice()], kind, &usual(None))?;
+            for &most in cuts_of(kind) {
                 let reader = Pieces::new(&stream, most, ALWAYS);
                 let mut matches = searcher.try_stream_find_iter(rt.alloc(), reader)?;
                 same(&rt, matches.buffer_len(), buffer);
