@@ -62,7 +62,7 @@ pub(super) fn engines(alloc: Global) -> Result<Vec<Engine>, AllocError> {
     let mut engines = Vec::new(alloc);
     for kind in KINDS {
         let depths = match kind {
-            Some(ContiguousNFA) => DENSE_DEPTHS,
+            None | Some(ContiguousNFA) => DENSE_DEPTHS,
             _ => UNFELT_DEPTHS,
         };
         for &dense_depth in depths {

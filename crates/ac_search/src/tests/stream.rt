@@ -268,15 +268,6 @@ fn pattern_of(alloc: Global, len: usize) -> Result<Vec<u8>, AllocError> {
     Ok(pattern)
 }
 
-/// Returns how many bytes a reader gives at once: under one kind few, about as many as a buffer holds, and all, and under the
-/// others all.
-fn cuts_of(kind: MatchKind) -> &'static [usize] {
-    match kind {
-        LeftmostLongest => &[1, 65_535, 65_536, 65_537, ALWAYS],
-        _ => &[ALWAYS],
-    }
-}
-
 /// A match may span two buffers.
 #[test]
 fn long_patterns_have_long_buffers(rt: HostRuntime) -> Result<(), Fail> {
@@ -288,7 +279,7 @@ fn long_patterns_have_long_buffers(rt: HostRuntime) -> Result<(), Fail> {
         let second = Some(Some((0, between, stream.len())));
         for &kind in EACH {
             let searcher = searcher_by(rt, &[pattern.as_slice()], kind, &usual(None))?;
-            for &most in cuts_of(kind) {
+            for most in [1, 7, 65_535, 65_536, 65_537, ALWAYS] {
                 let reader = Pieces::new(&stream, most, ALWAYS);
                 let mut matches = searcher.try_stream_find_iter(rt.alloc(), reader)?;
                 same(&rt, matches.buffer_len(), buffer);
