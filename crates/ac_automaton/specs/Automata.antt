@@ -1,4 +1,4 @@
--- What contracts say of the states of an automaton, by the node that a state stands for.
+-- What an automaton was built with, and what contracts say of its states, by the node that a state stands for.
 use Rattle.std.specs.Prelude.{ℕ, Bool, List, ◌≡◌, ◌↔◌, ◌++◌, IfSome, IsTrue, map, Option}
 use Rattle.ac_automaton.specs.Util.{Built, MatchKind, StartKind, Counts, looks_by, matches, more_looks, No, Node, plain, plain_byte, step, Yes}
 use Rattle.ac_util.specs.declared.search.Anchored.{Anchored}

@@ -1,4 +1,4 @@
--- What the replacement of a stream has done so far.
+-- What the replacement of a stream gathers before it writes, and what it has done so far.
 use Rattle.std.specs.Prelude.{◌≡◌, ℕ, List, [], ◌++◌, MatchResult, Option, None, Result, Some, ◌⊎◌, ◌<◌, ◌≤◌, Bool, Ok, Err, length, slice_index_or, take}
 use Rattle.ac_automaton.specs.Util.{error_of, Replacing, StreamError, WriteError, WritesAll, WritesUntilFailure, Writing, Answer, Built, Calls, Fails, FailsToRead, Continues, IsNear, IsSettled, IsSettledBy, Occurrence, Reading, ReadsAll, ReplacementSteps, StartFrom, stream_result, usize_max}
 use Rattle.ac_automaton.specs.declared.automaton.stream_replace.ByTexts.{ByTexts}

@@ -1,4 +1,4 @@
--- What a find answers, and when it has read enough.
+-- By which order a find picks, what it answers, and when it has read enough.
 use Rattle.std.specs.Prelude.{ℕ, Bool, ◌≡◌, ◌≢◌, ◌⊎◌, ◌↔◌, IsTrue, ◌+◌, ◌-◌, ◌<◌, ◌≤◌, false, true, List, [], Option, None, Some, IfSome, option_map, slice_get, length, max}
 use Rattle.ac_util.specs.declared.search.Anchored.{Anchored}
 use Rattle.ac_automaton.specs.Util.{Built, MatchKind, order_of, InputView, Counts, depth, is_leftmost, may_skip, Node, Occurrence, occurrence, pattern_of, pick, Search, Span, Standard, Taped, usize_max, Yes}

@@ -1,4 +1,5 @@
--- What a scan has done: an automaton under an anchoring, the text that it reads, and how far it has come in it.
+-- What a search has done with its tape; a scan: an automaton under an anchoring, the text that it reads, how far it has come
+-- in it, and how it skips.
 use Rattle.std.specs.Prelude.{◌≡◌, ◌≢◌, ℕ, ◌+◌, ◌-◌, ◌*◌, ◌<◌, ◌≤◌, Bool, false, List, None, length, max, ◌⊎◌, ◌↔◌, IsTrue, [], ◌∷◌, ◌++◌, Some, Option}
 use Rattle.ac_util.specs.declared.search.Anchored.{Anchored}
 use Rattle.ac_automaton.specs.Util.{Built, Counts, MatchKind, No, no_counts, Node, plain_patterns, reached, Search, Taped, text, Yes, credit, may_skip, Span, FirstOf, IsSkipFor, Skip, skip_for}

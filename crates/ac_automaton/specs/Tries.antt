@@ -1,4 +1,4 @@
--- How the states of a noncontiguous NFA stand for nodes.
+-- How the states of a noncontiguous NFA stand for nodes, and what its readers give.
 use Rattle.std.specs.Prelude.{◌≡◌, ◌≢◌, ◌↔◌, ℕ, zero, suc, ◌+◌, ◌-◌, ◌<◌, ◌≤◌, ◌&&◌, Bool, List, [], ◌∷◌, ◌++◌, length, map, drop, slice_get, slice_index, slice_range, slice_index_or, Contains, Option, None, Some, MatchOption, if◌then◌else◌, false, filter}
 use Rattle.std.specs.List.Sorted.{IsStrictlyIncreasing}
 use Rattle.std.proofs.Common.{sym, ◌∙◌, arith}

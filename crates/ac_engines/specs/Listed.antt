@@ -1,4 +1,5 @@
--- A state lists the matches of its node, all that an anchored search may want.
+-- The classes and the nodes that an engine is built over; and a state lists the matches of its node, all that an anchored
+-- search may want.
 use Rattle.std.specs.Prelude.{ℕ, Bool, List, if◌then◌else◌, ◌≡◌, IfOk, Result, slice_get, Some, ◌<◌, ◌≤◌, MatchResult, zero, suc, [], ◌∷◌, ◌++◌, flat_map, Option, None}
 use Rattle.ac_util.specs.Classes.{classes_of, singletons}
 use Rattle.ac_util.specs.declared.search.Anchored.{Anchored}

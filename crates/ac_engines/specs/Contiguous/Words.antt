@@ -1,4 +1,4 @@
--- How the states of the contiguous engine are spelled in words of 32 bits.
+-- The forms of the states of a contiguous NFA, how many words each takes, and how they are spelled in words of 32 bits.
 use Rattle.std.specs.Prelude.{ℕ, zero, suc, ◌+◌, ◌/◌, nat_lt, if◌then◌else◌, ◌*◌, List, [], ◌∷◌, length, Some, None, ◌≡◌, ◌≢◌, ◌%◌, ◌<◌, ◌≤◌, ◌==◌, ◌++◌, map, slice_index, slice_index_or, All, IfOk, Option, Result, ⊤}
 use Rattle.ac_engines.specs.declared.nfa.contiguous.format.Format.{Format}
 use Rattle.ac_engines.specs.declared.nfa.contiguous.format.Format.TheVariants.{Dense, One, Sparse}
