@@ -47,3 +47,4 @@ pub mod Exchanges
 pub mod Devices
 pub mod LawSets
 pub mod ReplacedCuts
+pub mod Commits

@@ -14,3 +14,4 @@ pub mod Plain
 pub mod Prefilters
 pub mod Built
 pub mod Laws
+pub mod Commit
