@@ -1,14 +1,15 @@
 -- The child of a run of patterns, which is put after the queue.
-use Rattle.std.proofs.Common.{◌≡◌, ◌≢◌, ℕ, suc, ◌+◌, ◌-◌, ◌<◌, ◌≤◌, List, [], ◌∷◌, ◌++◌, length, length-append, take, inl, inr, refl, ap, sym, ◌∙◌, subst, arith, Some, get_or, slice_get, rules}
+use Rattle.std.proofs.Common.{◌≡◌, ◌≢◌, ℕ, suc, ◌+◌, ◌-◌, ◌<◌, ◌≤◌, List, [], ◌∷◌, ◌++◌, length, length-append, take, ◌⊎◌, inl, inr, refl, ap, sym, ◌∙◌, subst, arith, Some, get_or, slice_get, rules}
 use Rattle.std.proofs.lemmas.Bool.{cases_lt}
-use Rattle.std.proofs.lemmas.List.{append-nil, append_assoc, length-map, length_push}
+use Rattle.std.proofs.lemmas.List.{append-nil, append_assoc, length-map, length-take-le, length_push}
 use Rattle.std.proofs.lemmas.Option.{slice_get-get_or, slice_get_within}
 use Rattle.std.proofs.Math.Seq.{take-append_seam}
 use Rattle.std.proofs.lemmas.Grind.{common_steps}
 use Rattle.ac_automaton.specs.Util.{GREATEST, plain_byte}
 use Rattle.ac_util.proofs.Lists.{IsIn, IsIn-append_cases, IsIn-append_left, IsIn-append_right, IsOrdered, IsOrdered-append}
 use Rattle.ac_automaton.specs.Prelude.{ANCHORED_START, FIRST_INNER, grown_view, IsGrown, IsRangeOf, key_at, leading, fallback, nodes_of, QueuedState, Transition, Waits, word}
-use Rattle.ac_automaton.proofs.Grown.{AreStates-more, nodes-cases, nodes-inner, nodes-more}
+use Rattle.ac_automaton.specs.Growths.{HasParent, IsNext}
+use Rattle.ac_automaton.proofs.Grown.{AreStates-more, IsDeadNumber, IsInner, IsStartNumber, nodes-cases, nodes-inner, nodes-more}
 use Rattle.ac_automaton.proofs.Leading.{leading-apart, leading-has, leading-length, leading-plain, leading-small}
 use Rattle.ac_automaton.proofs.Orders.{rank}
 use Rattle.ac_util.proofs.Prefixes.{front-is, starts_with-length}
@@ -105,6 +106,50 @@ module _ (site : Site) {place end b : ℕ} {transitions : List Transition} {queu
   parent-string : take (child.depth - 1) (word site.sorted child) ≡ string site
   parent-string = search (rules, child-word, long, take-append_seam)
 
+  -- no state in the queue is deeper: its parent comes no later than the state
+  no-deeper : (k : ℕ) (q : QueuedState) → slice_get queue k ≡ Some q → q.depth ≤ child.depth
+  no-deeper k q e = by (nodes-cases site.sorted queue parent.parent (Some front-of) parent.named)
+    where
+      parent : HasParent site.kind site.patterns site.sorted (length site.states + 1) queue q
+      parent = h.grown.parents k q e
+
+      front-of : List ℕ
+      front-of = take (q.depth - 1) (word site.sorted q)
+
+      shorter : length front-of ≡ q.depth - 1
+      shorter = length-take-le (q.depth - 1) (word site.sorted q) (let l = word-length (h.grown.waits k q e) in omega arith)
+
+      after : (place : ℕ) (p : QueuedState) → slice_get queue place ≡ Some p → FIRST_INNER + place ≡ parent.parent
+          → IsNext site.kind site.patterns site.sorted site.queue (length site.states) site.queued → p.depth ≤ site.queued.depth
+      after place p there is (inl first) = absurd (let l = parent.early in let n = first.number in omega arith)
+      after place p there is (inr next) =
+          h.grown.rising place next.place p site.queued there (h.kept next.place site.queued next.waits)
+          (let l = parent.early in let n = next.number in omega arith)
+
+      by : IsDeadNumber parent.parent (Some front-of)
+          ⊎ (IsStartNumber parent.parent (Some front-of) ⊎ IsInner site.sorted queue parent.parent (Some front-of))
+          → q.depth ≤ child.depth
+      by (inl dead) = absurd (let n = dead.node in cc)
+      by (inr (inl start)) = (let n : front-of ≡ [] = (let e = start.node in cc) in let l = ap length n in omega (arith, shorter))
+      by (inr (inr inner)) =
+          let n : front-of ≡ word site.sorted inner.queued = (let e = inner.node in cc) in
+          let l = ap length n in
+          let long = word-length (h.grown.waits inner.place inner.queued inner.waits) in
+          let deep = after inner.place inner.queued inner.waits (sym inner.number) site.ready.next in
+          omega (arith, shorter, l, long, deep)
+
+  -- so deeper ones still come later
+  still-rising : (j k : ℕ) (p q : QueuedState) → slice_get (queue ++ child ∷ []) j ≡ Some p
+      → slice_get (queue ++ child ∷ []) k ≡ Some q → j ≤ k → p.depth ≤ q.depth
+  still-rising j k p q e f le = by (get-added_cases queue child p j e) (get-added_cases queue child q k f)
+    where
+      by : (slice_get queue j ≡ Some p) ⊎ ((j ≡ length queue) × (child ≡ p))
+          → (slice_get queue k ≡ Some q) ⊎ ((k ≡ length queue) × (child ≡ q)) → p.depth ≤ q.depth
+      by (inl old) (inl older) = h.grown.rising j k p q old older le
+      by (inl old) (inr new) = let n = ap (λ (r : QueuedState). r.depth) new.1 in let l = no-deeper j p old in omega arith
+      by (inr new) (inl old) = let i = slice_get_within queue k q old in absurd (omega arith)
+      by (inr new) (inr newer) = let a = ap (λ (r : QueuedState). r.depth) new.1 in let b = ap (λ (r : QueuedState). r.depth) newer.1 in omega arith
+
   -- the transitions to it
   abbrev pub more_transitions : List Transition
   more_transitions = leading site.ignores_case b (FIRST_INNER + length queue)
@@ -146,6 +191,7 @@ module _ (site : Site) {place end b : ℕ} {transitions : List Transition} {queu
             (h.node ∙ ap (λ (v : List ℕ). Some (Some v)) (sym parent-string)));
       }
     ];
+    rising = still-rising;
   }
 
   -- each transition leads to the state of its string

@@ -2,12 +2,12 @@
 use Rattle.std.proofs.Common.{◌≡◌, ℕ, zero, suc, ◌+◌, ◌<◌, ◌≤◌, ◌≢◌, List, [], ◌∷◌, ◌++◌, length, map, ◌⊎◌, length-append, inl, inr, ap, sym, ◌∙◌, subst, arith, Some, None, get_or, slice_get, Contains, ◌↔◌, rules}
 use Rattle.std.specs.List.Sorted.{IsStrictlyIncreasing}
 use Rattle.std.proofs.lemmas.Bool.{cases_lt}
-use Rattle.std.proofs.lemmas.List.{get_or_append_left, get_or_push, length_push}
+use Rattle.std.proofs.lemmas.List.{get_or_append_left, get_or_push, length-take-le, length_push}
 use Rattle.std.proofs.lemmas.Option.{slice_get-map, slice_get-get_or, slice_get_within}
 use Rattle.std.proofs.lemmas.Grind.{common_steps}
-use Rattle.ac_automaton.specs.Util.{MatchKind, Node}
+use Rattle.ac_automaton.specs.Util.{depth, MatchKind, Node}
 use Rattle.ac_util.proofs.PiecesLemmas.{slice_range-append}
-use Rattle.ac_automaton.specs.Prelude.{AreStates, FIRST_INNER, IsGrown, Keyed, TrieView, nodes_of, transition_target, QueuedState, Represents, START, State, state_at, Transition, transition_bytes, transitions_of, word}
+use Rattle.ac_automaton.specs.Prelude.{AreStates, FIRST_INNER, IsGrown, key_at, Keyed, TrieView, nodes_of, transition_target, QueuedState, Represents, START, State, state_at, Transition, transition_bytes, transitions_of, word}
 use Rattle.ac_automaton.proofs.Places.{get-from_map, get-same}
 
 -- what a number says of its node: dead, the start, or the string of a state in the queue
@@ -60,6 +60,29 @@ module _ (sorted : List Keyed) where
   nodes-cases queue (suc (suc (suc (suc k)))) v e =
       let r = get-from_map (λ p. Some (word sorted p)) queue k v e in
       inr (inr (record { place = k; number = omega arith; queued = r.from; waits = r.there; node = sym r.is }))
+
+-- deeper nodes have greater numbers
+pub nodes-rising : {kind : MatchKind} {patterns : List (List ℕ)} {sorted : List Keyed} {whole : ℕ}
+    {transitions : List Transition} {queue : List QueuedState} → IsGrown kind patterns sorted whole transitions queue
+    → (s t : ℕ) (u v : Node) → slice_get (nodes_of sorted queue) s ≡ Some u → slice_get (nodes_of sorted queue) t ≡ Some v
+    → s ≤ t → depth u ≤ depth v
+nodes-rising {sorted = sorted} {queue = queue} grown s t u v e f le = by (nodes-cases sorted queue s u e) (nodes-cases sorted queue t v f)
+  where
+    deep : (k : ℕ) (p : QueuedState) → slice_get queue k ≡ Some p → length (word sorted p) ≡ p.depth
+    deep k p there = length-take-le p.depth (key_at sorted p.from) (grown.waits k p there).deep
+
+    by : IsDeadNumber s u ⊎ (IsStartNumber s u ⊎ IsInner sorted queue s u)
+        → IsDeadNumber t v ⊎ (IsStartNumber t v ⊎ IsInner sorted queue t v) → depth u ≤ depth v
+    by (inl dead) other = let n = ap depth dead.node in omega arith
+    by (inr (inl start)) other = let n = ap depth start.node in omega arith
+    by (inr (inr inner)) (inl dead) = let b = dead.below in let n = inner.number in absurd (omega arith)
+    by (inr (inr inner)) (inr (inl start)) = let b = start.below in let n = inner.number in absurd (omega arith)
+    by (inr (inr inner)) (inr (inr other)) =
+        let a = ap depth inner.node in let b = ap depth other.node in
+        let c = deep inner.place inner.queued inner.waits in let d = deep other.place other.queued other.waits in
+        let r = grown.rising inner.place other.place inner.queued other.queued inner.waits other.waits
+        (let n = inner.number in let m = other.number in omega arith) in
+        omega (arith, a, b, c, d, r)
 
 -- it is still so for more states, and for other transitions that are no more
 pub IsGrown-later : {kind : MatchKind} {patterns : List (List ℕ)} {sorted : List Keyed} {m n : ℕ}

@@ -6,7 +6,7 @@ use Rattle.std.proofs.lemmas.Grind.{common_steps}
 use Rattle.ac_automaton.specs.Util.{MatchKind, Node, pattern_of, plain, plain_byte}
 use Rattle.ac_automaton.specs.Prelude.{ANCHORED_START, AreStates, byte_at, FIRST_INNER, first_states, grown_view, Growth, HasRoot, HasBranched, IsGrown, IsOrder, IsTrie, Keyed, TrieView, nodes_of, numbers, NumbersNodes, QueuedState, Represents, Sorted, START, State, too_many_states, Transition, trie_of, Waits, word}
 use Rattle.ac_automaton.specs.Growths.{IsQueueReady}
-use Rattle.ac_automaton.proofs.Grown.{AreStates-push, IsGrown-later, nodes-inner}
+use Rattle.ac_automaton.proofs.Grown.{AreStates-push, IsGrown-later, nodes-inner, nodes-rising}
 use Rattle.ac_automaton.proofs.ListsOf.{listed_within-matches}
 use Rattle.ac_automaton.proofs.StateCount.{numbers-nodes, too_many_states-none}
 
@@ -170,6 +170,7 @@ module _ (texts : List (List ℕ)) {ignores_case : Bool} {kind : MatchKind} {sor
         start = refl;
         anchored_start = refl;
         numbered = numbered;
+        rising = nodes-rising h.grown;
         lists = λ s v e.
             listed_within-matches
             (grown_view kind ignores_case (map (plain ignores_case) texts) sorted transitions queue) states s s v

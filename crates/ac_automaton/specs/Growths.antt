@@ -88,7 +88,8 @@ module _ (kind : MatchKind) (patterns : List (List ℕ)) (sorted : List Keyed) w
     pub early : parent < whole
     pub named : slice_get (nodes_of sorted queue) parent ≡ Some (Some (take (q.depth - 1) (word sorted q)))
 
-  -- each state in the queue waits, no two have one string, and each is a child of one of the first states
+  -- each state in the queue waits, no two have one string, each is a child of one of the first states, and deeper ones
+  -- come later
   pub record IsGrown (whole : ℕ) (transitions : List Transition) (queue : List QueuedState) : Type 0 where
     pub few : FIRST_INNER + length queue ≤ GREATEST + 1
     pub counted : length transitions ≤ length queue + length queue
@@ -96,6 +97,8 @@ module _ (kind : MatchKind) (patterns : List (List ℕ)) (sorted : List Keyed) w
     pub apart : (j k : ℕ) (p q : QueuedState) → slice_get queue j ≡ Some p → slice_get queue k ≡ Some q
         → word sorted p ≡ word sorted q → j ≡ k
     pub parents : (k : ℕ) (q : QueuedState) → slice_get queue k ≡ Some q → HasParent whole queue q
+    pub rising : (j k : ℕ) (p q : QueuedState) → slice_get queue j ≡ Some p → slice_get queue k ≡ Some q → j ≤ k
+        → p.depth ≤ q.depth
 
   -- the next state is the start
   pub record IsFirstQueued (queue : List QueuedState) (s : ℕ) (p : QueuedState) : Type 0 where

@@ -196,7 +196,7 @@ pub record NumbersNodes (kind : MatchKind) (patterns : List (List ℕ)) (nodes :
   pub once : (s t : ℕ) (u : List ℕ) → IsNumberOf nodes s u → IsNumberOf nodes t u → s ≡ t
 
 -- the states are those of an automaton that has both starts, and no more than there are numbers: the first four
--- are the dead state, one that no search reaches, and the two starts
+-- are the dead state, one that no search reaches, and the two starts, and deeper ones come later
 pub record IsTrie (trie : Trie) (nodes : List Node) : Type 0 where
   pub both : trie.built.start_kind ≡ Both
   pub states : AreStates (meaning_of trie nodes) trie.states
@@ -206,6 +206,8 @@ pub record IsTrie (trie : Trie) (nodes : List Node) : Type 0 where
   pub start : slice_get nodes START ≡ Some (Some [])
   pub anchored_start : slice_get nodes ANCHORED_START ≡ Some (Some [])
   pub numbered : NumbersNodes trie.built.kind (plain_of trie.built) nodes
+  pub rising : (s t : ℕ) (u v : Node) → slice_get nodes s ≡ Some u → slice_get nodes t ≡ Some v → s ≤ t
+      → depth u ≤ depth v
   pub lists : (s : ℕ) (v : Node) → slice_get nodes s ≡ Some v
       → listed_within trie.order trie.states s s ≡ all_matches (meaning_of trie nodes) v
 
