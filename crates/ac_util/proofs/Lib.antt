@@ -48,3 +48,4 @@ pub mod Devices
 pub mod LawSets
 pub mod ReplacedCuts
 pub mod Commits
+pub mod DeadSteps
