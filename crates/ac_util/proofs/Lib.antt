@@ -47,5 +47,8 @@ pub mod Exchanges
 pub mod Devices
 pub mod LawSets
 pub mod ReplacedCuts
+pub mod NodeRests
+pub mod PickedWalks
 pub mod Commits
 pub mod DeadSteps
+pub mod NodePicks

@@ -68,7 +68,7 @@ module _ (kind : MatchKind) (patterns : List (List ℕ)) where
     pub within : place ≤ length w
     pub begins : begins_with_pattern patterns (drop place w) ≡ true
 
-  dead-begins : (w : List ℕ) → reached kind patterns No w ≡ None → BeginsIn w
+  pub dead-begins : (w : List ℕ) → reached kind patterns No w ≡ None → BeginsIn w
   dead-begins [] dead = let start = reached-nil kind patterns No in absurd (cc)
   dead-begins (x ∷ w) dead =
       by (is_node kind patterns (x ∷ w)) (sym (reached-cons kind patterns x w) ∙ dead) (λ gone. dead-begins w gone)
