@@ -1,7 +1,6 @@
 -- What a walk gives of a string whatever follows it, one byte more at a time.
 use Rattle.std.proofs.Common.{◌≡◌, ℕ, suc, ◌+◌, ◌-◌, ◌<◌, ◌≤◌, true, List, [], ◌∷◌, ◌++◌, length, length-append, length-drop, map, drop, refl, ap, sym, ◌∙◌, arith, None, Some, rules}
 use Rattle.std.proofs.lemmas.List.{append_assoc, drop-append-le, drop-drop, map-append}
-use Rattle.ac_util.specs.Commit.{Commits, IsSearchFor}
 use Rattle.ac_util.specs.Prelude.{from, Node, is_leftmost, last_end, matches, MatchKind, No, Occurrence, outward, pattern_of, reached, Search, step, text, walk}
 use Rattle.ac_util.proofs.Advance.{pick-stays}
 use Rattle.ac_util.proofs.Found.{matches-reached}
@@ -10,7 +9,16 @@ use Rattle.ac_util.proofs.Reached.{reached-nil, step-reached}
 use Rattle.ac_util.proofs.Spans.{text_length}
 use Rattle.ac_util.proofs.Standing.{IsPickIn, Stands-end}
 use Rattle.ac_util.proofs.NodeRests.{IsRest, pick-in_node, reached-rest}
-use Rattle.ac_util.proofs.PickedWalks.{search-from, text-from, walk-dead}
+use Rattle.ac_util.proofs.PickedWalks.{IsSearchFor, search-from, text-from, walk-dead}
+
+-- a text begins with w and then with z. Whatever follows, its walk gives these matches first, all within w, and goes on from
+-- the end of the last; and what w has from there on leads to the node v
+pub record Commits (kind : MatchKind) (patterns : List (List ℕ)) (w z : List ℕ) (ms : List Occurrence) (v : List ℕ)
+    : Type 0 where
+  pub gives : (q : Search) (y : List ℕ) → IsSearchFor patterns q → text q ≡ w ++ (z ++ y)
+      → walk kind q ≡ map (outward q.low) ms ++ walk kind (from q (q.low + last_end ms))
+  pub within : last_end ms ≤ length w
+  pub stands : reached kind patterns No (drop (last_end ms) w) ≡ Some v
 
 -- where the last of some matches ends, with others after them
 last_end-others : (ms : List Occurrence) (m : Occurrence) (ns : List Occurrence) → last_end (ms ++ m ∷ ns) ≡ last_end (m ∷ ns)

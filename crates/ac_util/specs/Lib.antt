@@ -14,4 +14,3 @@ pub mod Plain
 pub mod Prefilters
 pub mod Built
 pub mod Laws
-pub mod Commit
