@@ -12,11 +12,12 @@ ghost use Rattle.ac_automaton.specs.Scans.{Serves, skip_with};
 
 use ac_util::device::{Sink, Source};
 use ac_util::error::{MatchError, ReplaceError, StreamError};
-use ac_util::looks::Looks;
+use ac_util::looks::{Looks, open};
 use ac_util::primitives::PatternID;
 use ac_util::search::{Anchored, Input, Match, MatchKind};
 use std::alloc::Allocator;
 use std::io;
+use stream_replace::{ByClosure, ByTexts, replace_stream};
 
 mod common;
 mod find;
@@ -222,7 +223,9 @@ pub trait Automaton {
         Self: Sized,
         ensures { AnswersFind (seen self.now).built (input_of input.entry) result }
     {
-        find::try_find(self, input)
+        let mut finder = Finder::new(self, input.get_anchored(), input.get_earliest())?;
+        let (mut tape, mut looks) = open(&input);
+        Ok(finder.find(input.get_span(), &mut tape, &mut looks))
     }
 
     /// Returns an iterator over the matches of an input that don't overlap: the match kind picks each from where the
@@ -424,7 +427,9 @@ pub trait Automaton {
         ensures { ExchangesStream R.empty_means_end R.told W.told (seen self.now).built (bytes_of texts.now)
             reader.old writer.old reader.new writer.new result }
     {
-        stream_replace::try_stream_replace_all(self, alloc, reader, writer, texts)
+        let mut finder = StreamFinder::new(self, alloc)?;
+        let mut exchange = ByTexts::new(texts);
+        replace_stream(&mut finder, reader, writer, &mut exchange)
     }
 
     /// Writes all bytes that a reader gives, with a call of the closure at each match of the walk over them. This ports
@@ -451,6 +456,8 @@ pub trait Automaton {
         ensures { ExchangesStreamBy R.empty_means_end R.told W.told F.FnMut (seen self.now).built closure
             reader.old writer.old reader.new writer.new result }
     {
-        stream_replace::try_stream_replace_all_with(self, alloc, reader, writer, closure)
+        let mut finder = StreamFinder::new(self, alloc)?;
+        let mut exchange = ByClosure { closure };
+        replace_stream(&mut finder, reader, writer, &mut exchange)
     }
 }

@@ -1,17 +1,17 @@
 //! The core of every find.
 ghost use Rattle.std.specs.Prelude.{◌≡◌, ◌<◌, ◌↔◌, IsTrue, None};
-ghost use Rattle.ac_automaton.specs.Util.{find_result, input_of, Standard, start_refusal};
-ghost use Rattle.ac_automaton.specs.Answers.{AnswersFind, BeginsBy};
+ghost use Rattle.ac_automaton.specs.Util.{find_result, Standard, start_refusal};
+ghost use Rattle.ac_automaton.specs.Answers.{BeginsBy};
 ghost use Rattle.ac_automaton.specs.Finds.{finding_of, FindsIn, MaySearch, between, input_over};
 
 use super::Automaton;
 use super::scan::{Cursor, Scanner};
 use super::skip::SkipBudget;
 use ac_util::error::MatchError;
-use ac_util::looks::{Looks, Tape, open};
+use ac_util::looks::{Looks, Tape};
 use ac_util::prefilter::{Needle, Prefilter};
 use ac_util::primitives::StateID;
-use ac_util::search::{Anchored, Input, Match, MatchKind, Span};
+use ac_util::search::{Anchored, Match, MatchKind, Span};
 use std::marker::Model;
 
 /// Returns the match that the automaton's match kind picks in the span `start..end` of a tape's haystack, or with
@@ -47,19 +47,6 @@ pub fn find_core<A: Automaton>(
         unreachable!()
     };
     finder.find(Span { start, end }, tape, looks)
-}
-
-/// Returns what `Automaton::try_find` does.
-#[inline]
-pub(super) fn try_find<A: Automaton>(
-    automaton: &A,
-    input: Input<'_>,
-) -> Result<Option<Match>, MatchError>
-    ensures { AnswersFind (A.seen automaton.now).built (input_of input.entry) result }
-{
-    let mut finder = Finder::new(automaton, input.get_anchored(), input.get_earliest())?;
-    let (mut tape, mut looks) = open(&input);
-    Ok(finder.find(input.get_span(), &mut tape, &mut looks))
 }
 
 /// A find by an automaton whose start state and prefilter are looked up once, for finds in many spans.

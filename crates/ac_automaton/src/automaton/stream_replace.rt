@@ -4,7 +4,6 @@ ghost use Rattle.std.specs.Prelude.{◌≡◌, ℕ, ◌<◌, List, [], None, OnO
 ghost use Rattle.ac_automaton.specs.Util.{bytes_of, Occurrence, Replacing, stream_refusal, StreamError};
 ghost use Rattle.ac_automaton.specs.Exchanges.{AcceptsMatches, beside, CallsBy, ExchangesRead, Passes, PassesText, ReplacesOrFails, StillAccepts, by_texts, Passing};
 ghost use Rattle.ac_automaton.specs.Streams.{initial_stream};
-ghost use Rattle.ac_automaton.specs.Answers.{ExchangesStream, ExchangesStreamBy};
 
 use super::Automaton;
 use super::gathered::Gathered;
@@ -14,46 +13,6 @@ use ac_util::error::StreamError;
 use ac_util::search::Match;
 use std::alloc::Allocator;
 use std::io;
-
-/// Does what `Automaton::try_stream_replace_all` does.
-pub(super) fn try_stream_replace_all<A: Automaton, Z: Allocator, R: Source, W: Sink>(
-    automaton: &A,
-    alloc: Z,
-    reader: &mut R,
-    writer: &mut W,
-    texts: &[&[u8]],
-) -> Result<(), StreamError>
-    requires texts { length texts.now ≡ length (A.seen automaton.now).built.patterns }
-    ensures { ExchangesStream R.empty_means_end R.told W.told (A.seen automaton.now).built (bytes_of texts.now)
-        reader.old writer.old reader.new writer.new result }
-{
-    let mut finder = StreamFinder::new(automaton, alloc)?;
-    let mut exchange = ByTexts::new(texts);
-    replace_stream(&mut finder, reader, writer, &mut exchange)
-}
-
-/// Does what `Automaton::try_stream_replace_all_with` does.
-pub(super) fn try_stream_replace_all_with<A, Z, R, W, F>(
-    automaton: &A,
-    alloc: Z,
-    reader: &mut R,
-    writer: &mut W,
-    closure: F,
-) -> Result<(), StreamError>
-where
-    A: Automaton,
-    Z: Allocator,
-    R: Source,
-    W: Sink,
-    F: FnMut(&Match, &[u8], &mut W) -> io::Result<()>,
-    requires callable { F.IsAlwaysCallable closure }
-    ensures { ExchangesStreamBy R.empty_means_end R.told W.told F.FnMut (A.seen automaton.now).built closure
-        reader.old writer.old reader.new writer.new result }
-{
-    let mut finder = StreamFinder::new(automaton, alloc)?;
-    let mut exchange = ByClosure { closure };
-    replace_stream(&mut finder, reader, writer, &mut exchange)
-}
 
 /// What the bytes of a stream go through on their way to a writer, and what writes in place of a match.
 pub(super) trait Exchange<W: Sink> {
@@ -102,7 +61,7 @@ pub(super) struct ByTexts<'t> {
 
 impl<'t> ByTexts<'t> {
     /// Returns an exchange by these texts that holds nothing back.
-    fn new(texts: &'t [&'t [u8]]) -> ByTexts<'t>
+    pub(super) fn new(texts: &'t [&'t [u8]]) -> ByTexts<'t>
         ensures { result ≡ record { texts = texts.entry; gathered = [] } }
     {
         ByTexts {
@@ -201,7 +160,7 @@ fn exchange_read<A: Automaton, Z: Allocator, W: Sink, E: Exchange<W>>(
 ///
 /// # Errors
 /// As `Automaton::try_stream_replace_all`.
-fn replace_stream<A: Automaton, Z: Allocator, R: Source, W: Sink, E: Exchange<W>>(
+pub(super) fn replace_stream<A: Automaton, Z: Allocator, R: Source, W: Sink, E: Exchange<W>>(
     finder: &mut StreamFinder<'_, A, Z>,
     reader: &mut R,
     writer: &mut W,

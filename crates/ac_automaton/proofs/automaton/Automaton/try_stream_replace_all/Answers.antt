@@ -4,7 +4,7 @@ use Rattle.ac_automaton.specs.Prelude.{Streaming}
 use Rattle.ac_automaton.specs.declared.automaton.stream_replace.ByTexts.{ByTexts}
 use Rattle.ac_automaton.proofs.StreamReplacing.{answers-by}
 use Rattle.ac_automaton.proofs.StreamTexts.{fails-by, replaces-by}
-use Rattle.ac_automaton.proofs.automaton.stream_replace.try_stream_replace_all.Goals as goal
+use Rattle.ac_automaton.proofs.automaton.Automaton.try_stream_replace_all.Goals as goal
 
 pub returns : goal.returns
 returns g c =
@@ -20,7 +20,7 @@ returns g c =
     record { closure = c.replace_stream.new.exchange; destination = c.replace_stream.new.writer } in
     let same = ap texts c.new-exchange.ensures in
     let clear = ap (λ (e : ByTexts). e.gathered) c.new-exchange.ensures in
-    let built : c.in_ok-finder.finder.built ≡ (g.A.Automaton.seen c.args.automaton.now).built =
+    let built : c.in_ok-finder.finder.built ≡ (g.Self.Automaton.seen c.args.self.now).built =
     ap (λ (v : Streaming). v.built) c.in_ok-finder.ensures.1 in
     answers-by _ _ c.in_ok-finder.ensures.0
     (λ done. subst (λ (b : Built). ReplacesStream b list old new ends reader new_reader) built

@@ -2,7 +2,7 @@ use Rattle.std.proofs.Common.{◌≡◌, ap, subst}
 use Rattle.ac_automaton.specs.Util.{Built, FailsToReplaceWith, ReplacesStreamWith, Replacing}
 use Rattle.ac_automaton.specs.Prelude.{Streaming}
 use Rattle.ac_automaton.proofs.StreamReplacing.{answers-by, fails-with, replaces-with}
-use Rattle.ac_automaton.proofs.automaton.stream_replace.try_stream_replace_all_with.Goals as goal
+use Rattle.ac_automaton.proofs.automaton.Automaton.try_stream_replace_all_with.Goals as goal
 
 pub returns : goal.returns
 returns g c =
@@ -13,7 +13,7 @@ returns g c =
     let old = c.args.writer.now in
     let new = c.replace_stream.new.writer in
     let after : Replacing _ _ = record { closure = c.replace_stream.new.exchange; destination = new } in
-    let built : c.in_ok-finder.finder.built ≡ (g.A.Automaton.seen c.args.automaton.now).built =
+    let built : c.in_ok-finder.finder.built ≡ (g.Self.Automaton.seen c.args.self.now).built =
     ap (λ (v : Streaming). v.built) c.in_ok-finder.ensures.1 in
     answers-by _ _ c.in_ok-finder.ensures.0
     (λ done. subst (λ (b : Built). ReplacesStreamWith told g.F.FnMut b c.args.closure old ends reader new_reader new) built
