@@ -16,8 +16,18 @@ type Triple = (usize, usize, usize);
 const PRONOUNS: [&[u8]; 4] = [b"he", b"she", b"his", b"hers"];
 
 /// Ends the test where what was found is not what was wanted. It is proved once, and `assert_eq!` where it stands.
-fn same<T: PartialEq + Debug + Drop>(rt: &impl Abort, found: T, wanted: T) {
+pub(crate) fn same<T: PartialEq + Debug + Drop>(rt: &impl Abort, found: T, wanted: T) {
     assert_eq!(rt; found, wanted);
+}
+
+/// The same, and says by what it was found.
+pub(crate) fn same_by<T: PartialEq + Debug + Drop, B: Debug>(
+    rt: &impl Abort,
+    found: T,
+    wanted: T,
+    by: &B,
+) {
+    assert_eq!(rt; found, wanted, "{by:?}");
 }
 
 /// Returns what a row says of a match.

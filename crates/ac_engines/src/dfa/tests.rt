@@ -1,9 +1,12 @@
 //! The sizes of DFAs that were built.
 use super::Builder;
+use crate::tests::same_by;
 use ac_automaton::nfa::noncontiguous;
+use ac_util::error::BuildError;
 use ac_util::search::MatchKind::{LeftmostFirst, Standard};
 use ac_util::search::StartKind::{Anchored, Both, Unanchored};
 use ac_util::search::{MatchKind, StartKind};
+use std::alloc::Global;
 use std::test::Fail;
 
 /// Three patterns, two of which begin alike.
@@ -25,18 +28,32 @@ const SIZES: [Size; 9] = [
     (&[b"abcd"], Standard, Both, [8, 96, 88]),
 ];
 
+/// Returns how many states the trie of patterns has, how many entries the table of its DFA, and where its last row begins.
+fn sizes_of(
+    alloc: Global,
+    kind: MatchKind,
+    start_kind: StartKind,
+    patterns: &[&[u8]],
+) -> Result<[usize; 3], BuildError> {
+    let mut builder = noncontiguous::Builder::new();
+    let trie = builder.match_kind(kind).build(alloc, patterns)?;
+    let mut builder = Builder::new();
+    let dfa = builder
+        .start_kind(start_kind)
+        .build_from_noncontiguous(alloc, &trie)?;
+    let entries = dfa.table.len();
+    Ok([
+        trie.states_len(),
+        entries,
+        entries.saturating_sub(dfa.classes.stride()),
+    ])
+}
+
 #[test]
 fn tables_have_their_size(rt: HostRuntime) -> Result<(), Fail> {
     for (patterns, kind, start_kind, sizes) in SIZES {
-        let mut builder = noncontiguous::Builder::new();
-        let trie = builder.match_kind(kind).build(rt.alloc(), patterns)?;
-        let mut builder = Builder::new();
-        builder.start_kind(start_kind);
-        let dfa = builder.build_from_noncontiguous(rt.alloc(), &trie)?;
-        let stride = dfa.classes.stride();
-        let entries = dfa.table.len();
-        let numbers = [trie.states_len(), entries, entries.saturating_sub(stride)];
-        assert_eq!(rt; numbers, sizes, "{patterns:?}");
+        let found = sizes_of(rt.alloc(), kind, start_kind, patterns)?;
+        same_by(&rt, found, sizes, &start_kind);
     }
     Ok(())
 }

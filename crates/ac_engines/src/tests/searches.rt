@@ -1,8 +1,8 @@
-//! What the engines find.
-use super::{PRONOUNS, Triple, same, triple_of, triples_of};
+//! What the engines find by themselves.
+use super::{PRONOUNS, Triple, same, same_by, triple_of, triples_of};
 use crate::dfa;
 use crate::nfa::contiguous;
-use ac_automaton::automaton::{Automaton, Finder, OverlappingState, find_core};
+use ac_automaton::automaton::{Automaton, Finder, find_core};
 use ac_automaton::nfa::noncontiguous;
 use ac_util::device::FromRead;
 use ac_util::error::{BuildError, MatchError, StreamError};
@@ -10,194 +10,147 @@ use ac_util::looks::open;
 use ac_util::primitives::PatternID;
 use ac_util::search::Anchored::{No, Yes};
 use ac_util::search::MatchKind::{LeftmostFirst, LeftmostLongest, Standard};
-use ac_util::search::{Input, Match, MatchKind, Span, StartKind};
+use ac_util::search::{Anchored, Input, MatchKind, Span, StartKind};
 use std::alloc::Global;
 use std::fmt::Debug;
+use std::process::Abort;
 use std::test::Fail;
 
-/// What an automaton over the pronouns lists in `ushers`.
-const LISTED: [Triple; 3] = [(1, 1, 4), (0, 2, 4), (3, 2, 6)];
+/// A match kind, whether case is ignored, and whether searches are anchored.
+type Search = (MatchKind, bool, Anchored);
 
-/// Returns an automaton's walk.
-fn walk_of<A: Automaton>(
-    alloc: Global,
-    automaton: &A,
-    input: Input<'_>,
-) -> Result<Vec<Triple>, Fail> {
-    Ok(triples_of(alloc, automaton.try_find_iter(input)?)?)
-}
+const STANDARD: Search = (Standard, false, No);
 
-/// Returns the third item of an automaton's listing.
-fn third_of<A: Automaton>(automaton: &A, input: Input<'_>) -> Result<Option<Match>, MatchError> {
-    let mut state = OverlappingState::start();
-    automaton.try_find_overlapping(input, &mut state)?;
-    automaton.try_find_overlapping(input, &mut state)?;
-    automaton.try_find_overlapping(input, &mut state)?;
-    Ok(state.get_match())
-}
+const FIRST: Search = (LeftmostFirst, false, No);
 
-/// Compares what an automaton over the pronouns says of them.
-fn compare_queries<A: Automaton>(automaton: &A) -> Result<(), Fail> {
-    if automaton.patterns_len() != 4 || automaton.pattern_len(PatternID::must(3)) != 4 {
-        return Err(Fail::new("other patterns"));
-    }
-    if (automaton.min_pattern_len(), automaton.max_pattern_len()) != (2, 4) {
-        return Err(Fail::new("other lengths"));
-    }
-    if automaton.match_kind() != Standard || automaton.memory_usage() == 0 {
-        return Err(Fail::new("another kind, or no memory"));
-    }
-    Ok(())
-}
+const LONGEST: Search = (LeftmostLongest, false, No);
 
-/// Compares what an automaton over the pronouns finds in `ushers`.
-fn compare_searches<A: Automaton>(alloc: Global, automaton: &A) -> Result<(), Fail> {
-    let input = Input::new(b"ushers");
-    if automaton.try_find(input)?.as_ref().map(triple_of) != Some((1, 1, 4)) {
-        return Err(Fail::new("another find"));
-    }
-    if walk_of(alloc, automaton, input)?.as_slice() != [(1, 1, 4)].as_slice() {
-        return Err(Fail::new("another walk"));
-    }
-    let listed = triples_of(alloc, automaton.try_find_overlapping_iter(input)?)?;
-    if listed.as_slice() != LISTED.as_slice() {
-        return Err(Fail::new("another listing"));
-    }
-    if third_of(automaton, input)?.as_ref().map(triple_of) != Some((3, 2, 6)) {
-        return Err(Fail::new("another third item"));
-    }
-    Ok(())
-}
+const FOLDED: Search = (Standard, true, No);
 
-/// Compares what the core finds in `ushers`, by one call and by a finder that is used twice.
-fn compare_cores<A: Automaton>(automaton: &A) -> Result<(), Fail> {
-    let input = Input::new(b"ushers");
-    let mut finder = Finder::new(automaton, No, false)?;
-    let (mut tape, mut looks) = open(&input);
-    let found = find_core(automaton, No, false, 0, 6, &mut tape, &mut looks);
-    if found.as_ref().map(triple_of) != Some((1, 1, 4)) {
-        return Err(Fail::new("another find by one call"));
-    }
-    let (mut tape, mut looks) = open(&input);
-    let found = finder.find(Span { start: 0, end: 6 }, &mut tape, &mut looks);
-    if found.as_ref().map(triple_of) != Some((1, 1, 4)) {
-        return Err(Fail::new("another find"));
-    }
-    let (mut tape, mut looks) = open(&input);
-    let found = finder.find(Span { start: 2, end: 6 }, &mut tape, &mut looks);
-    if found.as_ref().map(triple_of) != Some((0, 2, 4)) {
-        return Err(Fail::new("another find from two on"));
-    }
-    Ok(())
-}
+const FOLDED_FIRST: Search = (LeftmostFirst, true, No);
 
-/// Compares what an automaton over the pronouns makes of `ushers`.
-fn compare_texts<A: Automaton>(alloc: Global, automaton: &A) -> Result<(), Fail> {
-    if automaton.patterns_len() != 4 {
-        return Err(Fail::new("other patterns"));
-    }
-    let texts = ["it", "her", "its", "theirs"];
-    if automaton.try_replace_all(alloc, "ushers", &texts)?.as_str() != "uherrs" {
-        return Err(Fail::new("another text"));
-    }
-    let texts: [&[u8]; 4] = [b"it", b"her", b"its", b"theirs"];
-    let replaced = automaton.try_replace_all_bytes(alloc, b"ushers", &texts)?;
-    if replaced.as_slice() != b"uherrs".as_slice() {
-        return Err(Fail::new("other bytes"));
-    }
-    Ok(())
-}
+const FROM_START: Search = (Standard, false, Yes);
 
-/// Compares what an automaton over the pronouns answers by closures.
-fn compare_closures<A: Automaton>(alloc: Global, automaton: &A) -> Result<(), Fail> {
-    let mut text = String::new(alloc);
-    automaton.try_replace_all_with("ushers", &mut text, |_, _, destination| {
-        destination.push_str("-").is_ok()
-    })?;
-    if text.as_str() != "u-rs" {
-        return Err(Fail::new("another text"));
-    }
-    let mut bytes = Vec::new(alloc);
-    automaton.try_replace_all_with_bytes(b"ushers", &mut bytes, |_, slice, destination| {
-        destination.extend_from_slice(slice).is_ok()
-    })?;
-    if bytes.as_slice() != b"ushers".as_slice() {
-        return Err(Fail::new("other bytes"));
-    }
-    Ok(())
-}
+const FIRST_FROM_START: Search = (LeftmostFirst, false, Yes);
 
-/// Compares all that an automaton over the pronouns answers.
-fn compare<A: Automaton>(alloc: Global, automaton: &A) -> Result<(), Fail> {
-    compare_queries(automaton)?;
-    compare_cores(automaton)?;
-    compare_searches(alloc, automaton)?;
-    compare_texts(alloc, automaton)?;
-    compare_closures(alloc, automaton)
-}
+const LONGEST_FROM_START: Search = (LeftmostLongest, false, Yes);
 
-#[test]
-fn noncontiguous_nfas_answer(rt: HostRuntime) -> Result<(), Fail> {
-    let mut builder = noncontiguous::Builder::new();
-    builder.dense_depth(7).prefilter(false);
-    compare(rt.alloc(), &builder.build(rt.alloc(), &PRONOUNS)?)?;
-    compare(
-        rt.alloc(),
-        &noncontiguous::NFA::new(rt.alloc(), &PRONOUNS)?.clone()?,
-    )
-}
+const FRUIT: &[&[u8]] = &[b"apple", b"maple", b"Snapple"];
 
-#[test]
-fn contiguous_nfas_answer(rt: HostRuntime) -> Result<(), Fail> {
-    let mut builder = contiguous::Builder::new();
-    builder.dense_depth(0).byte_classes(false).prefilter(false);
-    compare(rt.alloc(), &builder.build(rt.alloc(), &PRONOUNS)?)?;
-    compare(
-        rt.alloc(),
-        &contiguous::NFA::new(rt.alloc(), &PRONOUNS)?.clone()?,
-    )
-}
+const LIKES: &[u8] = b"Nobody likes maple in their apple flavored Snapple.";
 
-#[test]
-fn dfas_answer(rt: HostRuntime) -> Result<(), Fail> {
-    let mut builder = dfa::Builder::new();
-    builder
-        .start_kind(StartKind::Both)
-        .byte_classes(false)
-        .prefilter(false);
-    compare(rt.alloc(), &builder.build(rt.alloc(), &PRONOUNS)?)?;
-    compare(rt.alloc(), &dfa::DFA::new(rt.alloc(), &PRONOUNS)?.clone()?)
-}
+const FRUITS: &[Triple] = &[(1, 13, 18), (0, 28, 33), (2, 43, 50)];
 
-/// Compares the walk of an automaton over the words with what is wanted.
-fn compare_walk<A: Automaton>(alloc: Global, automaton: &A, wanted: &[Triple]) -> Result<(), Fail> {
-    let input = Input::new(b"append the app to the appendage");
-    if walk_of(alloc, automaton, input)?.as_slice() != wanted {
-        return Err(Fail::new("another walk"));
-    }
-    Ok(())
-}
+const PREFIXES: &[&[u8]] = &[b"b", b"abc", b"abcd"];
 
-/// A match kind, and the walk by the words.
-type Walk = (MatchKind, &'static [Triple]);
+const WORDS: &[&[u8]] = &[b"append", b"appendage", b"app"];
 
-const WALKS: [Walk; 3] = [
-    (Standard, &[(2, 0, 3), (2, 11, 14), (2, 22, 25)]),
-    (LeftmostFirst, &[(0, 0, 6), (2, 11, 14), (0, 22, 28)]),
-    (LeftmostLongest, &[(0, 0, 6), (2, 11, 14), (1, 22, 31)]),
+const SENTENCE: &[u8] = b"append the app to the appendage";
+
+/// A long pattern that fails at its last byte.
+const FAILS_LATE: &[&[u8]] = &[b"a", b"abcdefghi", b"hz", b"abcdefgh"];
+
+const FAILS_LATER: &[&[u8]] = &[b"b", b"abcdefghi", b"hz", b"abcdefgh"];
+
+const FOO: &[&[u8]] = &[b"FOO", b"bAr", b"BaZ"];
+
+const QUUX: &[&[u8]] = &[b"foo", b"bar", b"quux"];
+
+/// How is searched, for which patterns, in which haystack, and the walk.
+type Row = (
+    Search,
+    &'static [&'static [u8]],
+    &'static [u8],
+    &'static [Triple],
+);
+
+const WALKS: &[Row] = &[
+    (STANDARD, FRUIT, LIKES, FRUITS),
+    (FIRST, FRUIT, LIKES, FRUITS),
+    (LONGEST, FRUIT, LIKES, FRUITS),
+    (STANDARD, &PRONOUNS, b"ushers", &[(1, 1, 4)]),
+    (STANDARD, PREFIXES, b"abcd", &[(0, 1, 2)]),
+    (FIRST, PREFIXES, b"abcd", &[(1, 0, 3)]),
+    (LONGEST, PREFIXES, b"abcd", &[(2, 0, 4)]),
+    (STANDARD, &[b"Samwise", b"Sam"], b"Samwise", &[(1, 0, 3)]),
+    (FIRST, &[b"Samwise", b"Sam"], b"Samwise", &[(0, 0, 7)]),
+    (
+        STANDARD,
+        WORDS,
+        SENTENCE,
+        &[(2, 0, 3), (2, 11, 14), (2, 22, 25)],
+    ),
+    (
+        FIRST,
+        WORDS,
+        SENTENCE,
+        &[(0, 0, 6), (2, 11, 14), (0, 22, 28)],
+    ),
+    (
+        LONGEST,
+        WORDS,
+        SENTENCE,
+        &[(0, 0, 6), (2, 11, 14), (1, 22, 31)],
+    ),
+    (STANDARD, &[b"", b"a"], b"a", &[(0, 0, 0), (0, 1, 1)]),
+    (LONGEST, &[b"", b"a"], b"ba", &[(0, 0, 0), (1, 1, 2)]),
+    (
+        LONGEST_FROM_START,
+        &[b"", b"a"],
+        b"ba",
+        &[(0, 0, 0), (1, 1, 2)],
+    ),
+    (FIRST, FAILS_LATE, b"abcdefghz", &[(0, 0, 1), (2, 7, 9)]),
+    (LONGEST, FAILS_LATE, b"abcdefghz", &[(3, 0, 8)]),
+    (FIRST, FAILS_LATER, b"abcdefghz", &[(3, 0, 8)]),
+    (LONGEST, FAILS_LATER, b"abcdefghz", &[(3, 0, 8)]),
+    (
+        FIRST,
+        &[b"abc", b"bd", b""],
+        b"abd",
+        &[(2, 0, 0), (1, 1, 3)],
+    ),
+    (STANDARD, &[b"ab", b"ab"], b"abab", &[(0, 0, 2), (0, 2, 4)]),
+    (FIRST, PREFIXES, b"foo abcd", &[(1, 4, 7)]),
+    (FIRST_FROM_START, PREFIXES, b"foo abcd", &[]),
+    (FROM_START, PREFIXES, b"abcd", &[(1, 0, 3)]),
+    (LONGEST_FROM_START, PREFIXES, b"abcd", &[(2, 0, 4)]),
+    (
+        FIRST_FROM_START,
+        QUUX,
+        b"fooquuxbar foo",
+        &[(0, 0, 3), (2, 3, 7), (1, 7, 10)],
+    ),
+    (STANDARD, &[b"abc", b"bd"], b"abd", &[(1, 1, 3)]),
+    (FROM_START, &[b"abc", b"bd"], b"abd", &[]),
+    (STANDARD, &[], b"abc", &[]),
+    (STANDARD, &[b""], b"", &[(0, 0, 0)]),
+    (STANDARD, FOO, b"foo bar baz", &[]),
+    (
+        FOLDED,
+        FOO,
+        b"foo bar baz",
+        &[(0, 0, 3), (1, 4, 7), (2, 8, 11)],
+    ),
+    (FOLDED, &[b"apple", b"maple", b"snapple"], LIKES, FRUITS),
+    (
+        FOLDED_FIRST,
+        &[b"b", b"ABC", b"abcd"],
+        b"abcd",
+        &[(1, 0, 3)],
+    ),
 ];
 
-/// Returns the trie of patterns, by a match kind.
+/// Returns the trie of patterns.
 fn trie_of(
     alloc: Global,
-    kind: MatchKind,
-    ignores_case: bool,
+    search: Search,
     patterns: &[&[u8]],
 ) -> Result<noncontiguous::NFA, BuildError> {
     let mut builder = noncontiguous::Builder::new();
     builder
-        .match_kind(kind)
-        .ascii_case_insensitive(ignores_case);
+        .match_kind(search.0)
+        .ascii_case_insensitive(search.1);
     builder.build(alloc, patterns)
 }
 
@@ -214,32 +167,133 @@ fn contiguous_over(
 }
 
 /// Returns the DFA of a trie, whose kind and case count, and not the builder's.
-fn dfa_over(alloc: Global, trie: &noncontiguous::NFA) -> Result<dfa::DFA, BuildError> {
+fn dfa_over(
+    alloc: Global,
+    trie: &noncontiguous::NFA,
+    start_kind: StartKind,
+) -> Result<dfa::DFA, BuildError> {
     let mut builder = dfa::Builder::new();
     builder
         .match_kind(LeftmostLongest)
-        .ascii_case_insensitive(false);
+        .ascii_case_insensitive(false)
+        .start_kind(start_kind);
     builder.build_from_noncontiguous(alloc, trie)
 }
 
-/// Compares the walk of an automaton's clone over the words with what is wanted.
-fn compare_clone<A: Automaton + Clone>(
+/// Compares what an engine's clone answers with what a row says.
+fn compare_walk<E: Automaton + Clone + Debug>(
+    rt: &impl Abort,
     alloc: Global,
-    automaton: &A,
-    wanted: &[Triple],
+    engine: &E,
+    row: &Row,
 ) -> Result<(), Fail> {
-    compare_walk(alloc, &automaton.clone()?, wanted)
+    let &((kind, _, anchored), patterns, haystack, walk) = row;
+    let copy = engine.clone()?;
+    let input = Input::new(haystack).anchored(anchored);
+    let walked = triples_of(alloc, copy.try_find_iter(input)?)?;
+    same_by(rt, walked.as_slice(), walk, &copy);
+    let found = copy.try_find(input)?.as_ref().map(triple_of);
+    same_by(rt, found, walk.first().copied(), &copy);
+    let own = (copy.match_kind(), copy.patterns_len());
+    same_by(rt, own, (kind, patterns.len()), &copy);
+    Ok(())
 }
 
 #[test]
-fn clones_walk(rt: HostRuntime) -> Result<(), Fail> {
+fn engines_walk(rt: HostRuntime) -> Result<(), Fail> {
     let alloc = rt.alloc();
-    for (kind, wanted) in WALKS {
-        let trie = trie_of(alloc, kind, false, &[b"append", b"appendage", b"app"])?;
-        compare_clone(alloc, &trie, wanted)?;
-        compare_clone(alloc, &contiguous_over(alloc, &trie)?, wanted)?;
-        compare_clone(alloc, &dfa_over(alloc, &trie)?, wanted)?;
+    for row in WALKS {
+        let trie = trie_of(alloc, row.0, row.1)?;
+        compare_walk(&rt, alloc, &trie, row)?;
+        compare_walk(&rt, alloc, &contiguous_over(alloc, &trie)?, row)?;
+        let start_kind = match row.0.2 {
+            No => StartKind::Unanchored,
+            Yes => StartKind::Anchored,
+        };
+        for start_kind in [start_kind, StartKind::Both] {
+            compare_walk(&rt, alloc, &dfa_over(alloc, &trie, start_kind)?, row)?;
+        }
     }
+    Ok(())
+}
+
+/// Patterns, a haystack, and the listing.
+type Listing = (&'static [&'static [u8]], &'static [u8], &'static [Triple]);
+
+const LISTINGS: &[Listing] = &[
+    (&PRONOUNS, b"ushers", &[(1, 1, 4), (0, 2, 4), (3, 2, 6)]),
+    (
+        WORDS,
+        SENTENCE,
+        &[
+            (2, 0, 3),
+            (0, 0, 6),
+            (2, 11, 14),
+            (2, 22, 25),
+            (0, 22, 28),
+            (1, 22, 31),
+        ],
+    ),
+    (&[b"", b"a"], b"a", &[(0, 0, 0), (1, 0, 1), (0, 1, 1)]),
+    (
+        &[b"ab", b"ab"],
+        b"abab",
+        &[(0, 0, 2), (1, 0, 2), (0, 2, 4), (1, 2, 4)],
+    ),
+];
+
+/// Compares what an engine lists with what a row says.
+fn compare_listing<E: Automaton + Debug>(
+    rt: &impl Abort,
+    alloc: Global,
+    engine: &E,
+    row: &Listing,
+) -> Result<(), Fail> {
+    let items = engine.try_find_overlapping_iter(Input::new(row.1))?;
+    let listed = triples_of(alloc, items)?;
+    same_by(rt, listed.as_slice(), row.2, engine);
+    Ok(())
+}
+
+#[test]
+fn engines_list(rt: HostRuntime) -> Result<(), Fail> {
+    let alloc = rt.alloc();
+    for row in LISTINGS {
+        let trie = trie_of(alloc, STANDARD, row.0)?;
+        compare_listing(&rt, alloc, &trie, row)?;
+        compare_listing(&rt, alloc, &contiguous_over(alloc, &trie)?, row)?;
+        compare_listing(&rt, alloc, &dfa_over(alloc, &trie, StartKind::Both)?, row)?;
+    }
+    Ok(())
+}
+
+/// Compares what the core finds in `ushers`, and a finder from its third byte on.
+fn compare_cores<A: Automaton>(rt: &impl Abort, automaton: &A) -> Result<(), MatchError> {
+    let input = Input::new(b"ushers");
+    let mut finder = Finder::new(automaton, No, false)?;
+    let (mut tape, mut looks) = open(&input);
+    let found = find_core(automaton, No, false, 0, 6, &mut tape, &mut looks);
+    same(rt, found.as_ref().map(triple_of), Some((1, 1, 4)));
+    let (mut tape, mut looks) = open(&input);
+    let found = finder.find(Span { start: 2, end: 6 }, &mut tape, &mut looks);
+    same(rt, found.as_ref().map(triple_of), Some((0, 2, 4)));
+    Ok(())
+}
+
+/// Compares what an automaton over the pronouns says of them, and what its cores find.
+fn compare_pronouns<A: Automaton>(rt: &impl Abort, automaton: &A) -> Result<(), MatchError> {
+    let lengths = (automaton.min_pattern_len(), automaton.max_pattern_len());
+    same(rt, lengths, (2, 4));
+    assert!(rt; automaton.patterns_len() == 4 && automaton.memory_usage() > 0);
+    same(rt, automaton.pattern_len(PatternID::must(3)), 4);
+    compare_cores(rt, automaton)
+}
+
+#[test]
+fn engines_know_their_patterns(rt: HostRuntime) -> Result<(), Fail> {
+    compare_pronouns(&rt, &noncontiguous::NFA::new(rt.alloc(), &PRONOUNS)?)?;
+    compare_pronouns(&rt, &contiguous::NFA::new(rt.alloc(), &PRONOUNS)?)?;
+    compare_pronouns(&rt, &dfa::DFA::new(rt.alloc(), &PRONOUNS)?)?;
     Ok(())
 }
 
@@ -248,11 +302,8 @@ fn clones_walk(rt: HostRuntime) -> Result<(), Fail> {
 fn a_dfa_refuses_before_it_looks_at_the_span(rt: HostRuntime) -> Result<(), Fail> {
     let dfa = dfa::DFA::new(rt.alloc(), &[b"abc"])?;
     let input = Input::new(b"abc").range(4..3).anchored(Yes);
-    same(
-        &rt,
-        dfa.try_find(input),
-        Err(MatchError::InvalidInputAnchored),
-    );
+    let refusal = Err(MatchError::InvalidInputAnchored);
+    same(&rt, dfa.try_find(input), refusal);
     same(&rt, dfa.try_find(input.anchored(No)), Ok(None));
     Ok(())
 }
@@ -273,7 +324,7 @@ fn engines_are_shown(rt: HostRuntime) -> Result<(), Fail> {
     compare_shown(alloc, &trie, wanted)?;
     compare_shown(alloc, &contiguous_over(alloc, &trie)?, wanted)?;
     let wanted = "DFA { match_kind: Standard, patterns: 2 }";
-    compare_shown(alloc, &dfa_over(alloc, &trie)?, wanted)
+    compare_shown(alloc, &dfa_over(alloc, &trie, StartKind::Both)?, wanted)
 }
 
 /// A stream that is refused.
@@ -300,38 +351,8 @@ fn a_refused_stream_is_not_read(rt: HostRuntime) -> Result<(), Fail> {
     let refusal = MatchError::UnsupportedEmpty;
     compare_refusal(alloc, &trie, refusal)?;
     compare_refusal(alloc, &contiguous_over(alloc, &trie)?, refusal)?;
-    compare_refusal(alloc, &dfa_over(alloc, &trie)?, refusal)?;
-    let mut builder = dfa::Builder::new();
-    builder.start_kind(StartKind::Anchored);
-    let refusal = MatchError::InvalidInputUnanchored;
-    compare_refusal(alloc, &builder.build(alloc, &[b"a"])?, refusal)
-}
-
-#[test]
-fn a_dfa_has_both_starts(rt: HostRuntime) -> Result<(), Fail> {
-    let mut builder = dfa::Builder::new();
-    builder.start_kind(StartKind::Both);
-    let dfa = builder.build(rt.alloc(), &[b"abc", b"bd"])?;
-    let found = dfa.try_find(Input::new(b"abd"))?.as_ref().map(triple_of);
-    same(&rt, found, Some((1, 1, 3)));
-    let found = dfa.try_find(Input::new(b"abd").anchored(Yes))?;
-    same(&rt, found, None);
-    Ok(())
-}
-
-/// Returns an automaton's match kind, and what it finds in `abcd`.
-fn kind_and_find<A: Automaton>(automaton: &A) -> Result<(MatchKind, Option<Triple>), MatchError> {
-    let found = automaton.try_find(Input::new(b"abcd"))?;
-    Ok((automaton.match_kind(), found.as_ref().map(triple_of)))
-}
-
-/// The match kind and the case are those of the trie, whatever the builder of the engine says.
-#[test]
-fn a_trie_gives_its_kind_and_case(rt: HostRuntime) -> Result<(), Fail> {
-    let alloc = rt.alloc();
-    let trie = trie_of(alloc, LeftmostFirst, true, &[b"b", b"ABC", b"abcd"])?;
-    let wanted = (LeftmostFirst, Some((1, 0, 3)));
-    same(&rt, kind_and_find(&contiguous_over(alloc, &trie)?)?, wanted);
-    same(&rt, kind_and_find(&dfa_over(alloc, &trie)?)?, wanted);
-    Ok(())
+    compare_refusal(alloc, &dfa_over(alloc, &trie, StartKind::Both)?, refusal)?;
+    let trie = noncontiguous::NFA::new(alloc, &[b"a"])?;
+    let dfa = dfa_over(alloc, &trie, StartKind::Anchored)?;
+    compare_refusal(alloc, &dfa, MatchError::InvalidInputUnanchored)
 }

@@ -11,9 +11,10 @@ use ac_automaton::nfa::noncontiguous;
 use ac_automaton::nfa::noncontiguous::FIRST_INNER;
 use ac_util::error::{BuildError, MatchError};
 use ac_util::looks::Looks;
-use ac_util::primitives::{PatternID, StateID};
+use ac_util::primitives::StateID;
 use ac_util::search::Anchored::{No, Yes};
 use ac_util::search::{Anchored, StartKind};
+use std::process::Abort;
 use std::test::Fail;
 
 /// Returns the state in which an automaton stands after three bytes.
@@ -32,63 +33,61 @@ fn state_after<A: Automaton>(
 }
 
 /// Compares the states of an automaton over the pronouns.
-fn compare_states<A: Automaton>(automaton: &A) -> Result<(), Fail> {
+fn compare_states<A: Automaton>(rt: &impl Abort, automaton: &A) -> Result<(), MatchError> {
     let she = state_after(automaton, No, *b"she")?;
-    if !automaton.is_match(she) || automaton.match_len(she) != 2 {
-        return Err(Fail::new("she ends another number of patterns"));
-    }
-    let ends = (
+    assert!(rt; automaton.is_match(she) && automaton.match_len(she) == 2);
+    let (first, second) = (
         automaton.match_pattern(she, 0),
         automaton.match_pattern(she, 1),
     );
-    if ends != (PatternID::must(1), PatternID::must(0)) {
-        return Err(Fail::new("she ends other patterns"));
-    }
+    same(rt, (first.as_usize(), second.as_usize()), (1, 0));
     let lost = state_after(automaton, No, *b"shx")?;
-    if !automaton.is_start(lost) || !automaton.is_special(lost) || automaton.is_match(lost) {
-        return Err(Fail::new("shx is not at the start again"));
-    }
+    let kinds = (
+        automaton.is_start(lost),
+        automaton.is_special(lost),
+        automaton.is_match(lost),
+    );
+    same(rt, kinds, (true, true, false));
     let dead = state_after(automaton, Yes, *b"ush")?;
-    if !automaton.is_dead(dead) || !automaton.is_match_or_dead(dead) {
-        return Err(Fail::new("an anchored search goes on"));
-    }
+    let kinds = (automaton.is_dead(dead), automaton.is_match_or_dead(dead));
+    same(rt, kinds, (true, true));
+    // A step that a state has no transition for goes on at its failure target, and so on.
+    let begun = state_after(automaton, No, *b"xxh")?;
+    same(rt, state_after(automaton, No, *b"shh")?, begun);
     Ok(())
 }
 
 #[test]
 fn each_engine_has_the_same_states(rt: HostRuntime) -> Result<(), Fail> {
-    compare_states(&noncontiguous::NFA::new(rt.alloc(), &PRONOUNS)?)?;
-    compare_states(&contiguous::NFA::new(rt.alloc(), &PRONOUNS)?)?;
+    compare_states(&rt, &noncontiguous::NFA::new(rt.alloc(), &PRONOUNS)?)?;
+    compare_states(&rt, &contiguous::NFA::new(rt.alloc(), &PRONOUNS)?)?;
     let mut builder = dfa::Builder::new();
-    let dfa = builder
-        .start_kind(StartKind::Both)
-        .build(rt.alloc(), &PRONOUNS)?;
-    compare_states(&dfa)
+    builder.start_kind(StartKind::Both);
+    compare_states(&rt, &builder.build(rt.alloc(), &PRONOUNS)?)?;
+    Ok(())
 }
 
 /// Both patterns begin at the start, and what is after one byte fails to it.
 #[test]
 fn a_trie_is_read(rt: HostRuntime) -> Result<(), Fail> {
     let trie = noncontiguous::NFA::new(rt.alloc(), &[b"abc", b"bd"])?;
-    assert!(rt; trie.states_len() == 9);
-    same(
-        &rt,
-        (trie.fold(), trie.wants_prefilter(), trie.patterns().len()),
-        (false, true, 2),
-    );
+    let settings = (trie.fold(), trie.wants_prefilter(), trie.patterns().len());
+    same(&rt, settings, (false, true, 2));
     let start = trie.start_state(No)?;
-    assert!(rt; trie.own_len(start) == 2);
-    let (first, a) = trie.own(start, 0);
-    let (second, b) = trie.own(start, 1);
-    same(&rt, (first, second), (b'a', b'b'));
-    assert!(rt; FIRST_INNER <= a.as_usize() && a.as_usize() < 9);
-    assert!(rt; FIRST_INNER <= b.as_usize() && b.as_usize() < 9);
-    same(
-        &rt,
-        (trie.depth(start), trie.depth(a), trie.own_len(b)),
-        (0, 1, 1),
-    );
-    same(&rt, (trie.fail(a), trie.fail(b)), (start, start));
+    let sizes = (trie.states_len(), trie.depth(start), trie.own_len(start));
+    same(&rt, sizes, (9, 0, 2));
+    for (index, first) in [b'a', b'b'].into_iter().enumerate() {
+        assert!(rt; index < trie.own_len(start));
+        let (byte, child) = trie.own(start, index);
+        assert!(rt; FIRST_INNER <= child.as_usize() && child.as_usize() < trie.states_len());
+        let read = (
+            byte,
+            trie.depth(child),
+            trie.own_len(child),
+            trie.fail(child),
+        );
+        same(&rt, read, (first, 1, 1, start));
+    }
     Ok(())
 }
 
@@ -100,33 +99,67 @@ fn too_large(requested: u64) -> BuildError {
     }
 }
 
+/// How many rows a table has, the exponent of its stride, and how many entries there are, or which number is refused.
+const TABLES: [(u64, u32, Result<u64, u64>); 5] = [
+    (9, 3, Ok(72)),
+    (8388608, 8, Ok(2147483648)),
+    (8388609, 8, Err(2147483648)),
+    (2147483647, 0, Ok(2147483647)),
+    (2147483648, 0, Err(2147483647)),
+];
+
 #[test]
 fn sizes_have_limits(rt: HostRuntime) {
-    same(&rt, dfa::table_len(9, 3), Ok(72));
-    same(&rt, dfa::table_len(8388608, 8), Ok(2147483648));
-    let refused = Err(too_large(2147483648));
-    same(&rt, dfa::table_len(8388609, 8), refused);
-    same(&rt, dfa::table_len(2147483647, 0), Ok(2147483647));
-    let refused = Err(too_large(2147483647));
-    same(&rt, dfa::table_len(2147483648, 0), refused);
-    same(&rt, check_words(2147483646), Ok(2147483646));
-    let refused = Err(too_large(2147483647));
-    same(&rt, check_words(2147483647), refused);
+    for (rows, stride2, wanted) in TABLES {
+        assert!(rt; 1 <= rows && rows <= 4294967290 && stride2 <= 8);
+        same(
+            &rt,
+            dfa::table_len(rows, stride2),
+            wanted.map_err(too_large),
+        );
+    }
+    for sum in [2147483646, 2147483647] {
+        let wanted = if sum < 2147483647 {
+            Ok(sum)
+        } else {
+            Err(too_large(sum))
+        };
+        same(&rt, check_words(sum), wanted);
+    }
 }
+
+/// The depth of a state, the dense depth, how many transitions and matches it has, and the form that it takes.
+const FORMS: [(usize, usize, usize, usize, Format); 9] = [
+    (1, 0, 1, 0, Format::One),
+    (1, 0, 1, 1, Format::Sparse),
+    (1, 0, 127, 0, Format::Sparse),
+    (1, 0, 128, 0, Format::Dense),
+    (2, 2, 127, 0, Format::Sparse),
+    (2, 2, 128, 0, Format::Dense),
+    (1, 2, 1, 0, Format::Dense),
+    (2, 2, 1, 0, Format::One),
+    (2, 2, 1, 1, Format::Sparse),
+];
+
+/// A form, how many classes, transitions and matches there are, and how many words.
+const WORDS: [(Format, u64, u64, u64, u64); 4] = [
+    (Format::Sparse, 131, 127, 0, 161),
+    (Format::Dense, 131, 128, 0, 133),
+    (Format::One, 256, 1, 0, 3),
+    (Format::Sparse, 6, 0, 3, 6),
+];
 
 #[test]
 fn states_have_forms(rt: HostRuntime) {
-    same(&rt, format_of(1, 0, 1, 0), Format::One);
-    same(&rt, format_of(1, 0, 1, 1), Format::Sparse);
-    same(&rt, format_of(1, 0, 127, 0), Format::Sparse);
-    same(&rt, format_of(1, 0, 128, 0), Format::Dense);
-    same(&rt, format_of(2, 2, 127, 0), Format::Sparse);
-    same(&rt, format_of(2, 2, 128, 0), Format::Dense);
-    same(&rt, format_of(1, 2, 1, 0), Format::Dense);
-    same(&rt, format_of(2, 2, 1, 0), Format::One);
-    same(&rt, format_of(2, 2, 1, 1), Format::Sparse);
-    same(&rt, state_words(Format::Sparse, 131, 127, 0), 161);
-    same(&rt, state_words(Format::Dense, 131, 128, 0), 133);
-    same(&rt, state_words(Format::One, 256, 1, 0), 3);
-    same(&rt, state_words(Format::Sparse, 6, 0, 3), 6);
+    for (depth, dense_depth, transitions, matches, form) in FORMS {
+        same(
+            &rt,
+            format_of(depth, dense_depth, transitions, matches),
+            form,
+        );
+    }
+    for (form, classes, transitions, matches, words) in WORDS {
+        assert!(rt; classes <= 256 && transitions <= 256 && matches <= 2147483647);
+        same(&rt, state_words(form, classes, transitions, matches), words);
+    }
 }

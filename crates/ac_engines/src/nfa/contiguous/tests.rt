@@ -1,8 +1,11 @@
 //! The words of automata that were built.
-use super::Builder;
 use super::state::FAIL;
+use super::{Builder, NFA};
+use crate::tests::{same, same_by};
 use ac_automaton::automaton::Automaton;
+use ac_util::error::MatchError;
 use ac_util::looks::Looks;
+use ac_util::primitives::StateID;
 use ac_util::search::MatchKind::{LeftmostFirst, LeftmostLongest, Standard};
 use ac_util::search::{Anchored, MatchKind};
 use std::test::Fail;
@@ -56,51 +59,47 @@ fn words_have_their_number(rt: HostRuntime) -> Result<(), Fail> {
             .byte_classes(byte_classes);
         let nfa = builder.build(rt.alloc(), patterns)?;
         let numbers = (nfa.classes.alphabet_len(), nfa.words.len());
-        assert_eq!(rt;
-            numbers,
-            (classes, words),
-            "{patterns:?} to depth {dense_depth}"
-        );
+        same_by(&rt, numbers, (classes, words), &builder);
     }
     Ok(())
+}
+
+/// Returns `a` with each byte from 80 on, one pair after the other.
+fn pairs() -> [u8; 256] {
+    let mut text = [b'a'; 256];
+    for index in 0..0x80u8 {
+        text[2 * index as usize + 1] = 0x80 + index;
+    }
+    text
+}
+
+/// Returns the number of the state of `a`.
+fn state_of_a(nfa: &NFA) -> Result<StateID, MatchError> {
+    let start = nfa.start_state(Anchored::No)?;
+    Ok(nfa.next_state(Anchored::No, start, b'a', &mut Looks::new()))
 }
 
 /// Patterns of `a` and each byte from 80 on, so that the state of `a` has 127 transitions or 128. It is the last one,
 /// since the patterns' own states have matches.
 #[test]
 fn a_state_of_many_transitions(rt: HostRuntime) -> Result<(), Fail> {
-    let mut text = [b'a'; 256];
-    for index in 0..0x80u8 {
-        text[2 * index as usize + 1] = 0x80 + index;
-    }
+    let text = pairs();
     // How many patterns there are, and of the state the number of its words, the first, and another one with its place.
     let rows = [(127, 161, 127, 33, 0x8181807F), (128, 133, 0xFF, 4, FAIL)];
-    for (patterns, len, form, place, word) in rows {
-        let patterns: Vec<&[u8]> = text.chunks(2).take(patterns).collect(rt.alloc())?;
+    for (count, len, form, place, word) in rows {
+        let patterns: Vec<&[u8]> = text.chunks(2).take(count).collect(rt.alloc())?;
         let nfa = Builder::new().dense_depth(0).build(rt.alloc(), &patterns)?;
-        assert_eq!(rt; nfa.classes.alphabet_len(), 131);
-        let start = nfa.start_state(Anchored::No)?;
-        let sid = nfa.next_state(Anchored::No, start, b'a', &mut Looks::new());
-        let words = nfa.words.get(sid.as_usize()..).unwrap_or_default();
-        assert_eq!(rt; words.len(), len);
-        assert_eq!(rt; words.first(), Some(&form));
-        assert_eq!(rt; words.get(place), Some(&word));
+        let words = nfa
+            .words
+            .get(state_of_a(&nfa)?.as_usize()..)
+            .unwrap_or_default();
+        let read = (
+            words.len(),
+            words.first().copied(),
+            words.get(place).copied(),
+        );
+        same(&rt, read, (len, Some(form), Some(word)));
+        same(&rt, nfa.classes.alphabet_len(), 131);
     }
-    Ok(())
-}
-
-/// Where a state has no transition by a byte, an unanchored step goes on at its failure target, and an anchored one is
-/// at its end.
-#[test]
-fn a_step_without_a_transition(rt: HostRuntime) -> Result<(), Fail> {
-    let nfa = Builder::new().build(rt.alloc(), &[b"ab"])?;
-    let mut looks = Looks::new();
-    let start = nfa.start_state(Anchored::No)?;
-    let sid = nfa.next_state(Anchored::No, start, b'a', &mut looks);
-    assert_eq!(rt; nfa.next_state(Anchored::No, sid, b'a', &mut looks), sid);
-    let start = nfa.start_state(Anchored::Yes)?;
-    let sid = nfa.next_state(Anchored::Yes, start, b'a', &mut looks);
-    let after = nfa.next_state(Anchored::Yes, sid, b'a', &mut looks);
-    assert!(rt; nfa.is_dead(after));
     Ok(())
 }

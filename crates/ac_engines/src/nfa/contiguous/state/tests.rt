@@ -4,6 +4,7 @@ ghost use Rattle.ac_engines.specs.declared.nfa.contiguous.format.Format.{Format}
 ghost use Rattle.ac_engines.specs.Contiguous.Words.{BeginsWith, PackedState};
 
 use super::*;
+use crate::tests::same;
 use std::test::Fail;
 
 /// A sparse state, by classes 3, 7, 9, 12 and 20 to 100, 110, 120, 130 and 140. Its failure target is 40, its match 6.
@@ -64,14 +65,14 @@ fn states_are_read(rt: HostRuntime) {
 fn a_class_leads_to_its_target_or_to_none(rt: HostRuntime) {
     let state = State::at(&SPARSE, 0);
     let mut looks = Looks::new();
-    assert_eq!(rt; state.look(20, &mut looks), Some(140));
-    assert_eq!(rt; state.look(21, &mut looks), None);
-    assert_eq!(rt; state.fail(), 40);
+    same(&rt, state.look(20, &mut looks), Some(140));
+    same(&rt, state.look(21, &mut looks), None);
+    same(&rt, state.fail(), 40);
 }
 
 #[test]
 fn transitions_are_shown(rt: HostRuntime) -> Result<(), Fail> {
     let shown = format!(in rt.alloc(); "{:?}", State::at(&FULL, 0).transitions(3))?;
-    assert_eq!(rt; shown.as_str(), "{0: 1, 1: 100, 2: 1}");
+    same(&rt, shown.as_str(), "{0: 1, 1: 100, 2: 1}");
     Ok(())
 }
