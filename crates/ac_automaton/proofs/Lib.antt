@@ -4,6 +4,7 @@ pub mod Child
 pub mod ChildFails
 pub mod Counting
 pub mod Due
+pub mod Exchanged
 pub mod Exchanging
 pub mod FindAhead
 pub mod FindLoop
