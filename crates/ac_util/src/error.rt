@@ -180,35 +180,44 @@ impl From<WriteError> for StreamError {
 #[cfg(test)]
 mod tests {
     use super::*;
+    use crate::tests::same;
+    use std::alloc::Global;
     use std::error::Error;
     use std::fmt::Display;
+    use std::process::Abort;
     use std::test::Fail;
 
-    /// Returns what a person is shown of an error.
-    fn shown<E: Error + Display>(alloc: std::alloc::Global, error: &E) -> Result<String, Fail> {
-        Ok(format!(in alloc; "{}", *error)?)
+    /// Compares what a person is shown of an error.
+    fn compare_shown<E: Error + Display>(
+        rt: &impl Abort,
+        alloc: Global,
+        error: &E,
+        wanted: &str,
+    ) -> Result<(), Fail> {
+        let shown = format!(in alloc; "{}", *error)?;
+        same(rt, shown.as_str(), wanted);
+        Ok(())
     }
 
     #[test]
     fn errors_are_shown(rt: HostRuntime) -> Result<(), Fail> {
         let alloc = rt.alloc();
         let memory = "a request for memory was refused";
-        assert_eq!(rt; shown(alloc, &BuildError::Memory)?.as_str(), memory);
-        assert_eq!(rt; shown(alloc, &ReplaceError::Memory)?.as_str(), memory);
-        assert_eq!(rt; shown(alloc, &StreamError::Memory)?.as_str(), memory);
+        compare_shown(&rt, alloc, &BuildError::Memory, memory)?;
+        compare_shown(&rt, alloc, &ReplaceError::Memory, memory)?;
+        compare_shown(&rt, alloc, &StreamError::Memory, memory)?;
         let long = BuildError::PatternTooLong {
             pattern: PatternID::must(3),
             len: 2147483647,
         };
         let text = "the pattern with the number 3 is too long: it has 2147483647 bytes";
-        assert_eq!(rt; shown(alloc, &long)?.as_str(), text);
+        compare_shown(&rt, alloc, &long, text)?;
         let kind = MatchError::UnsupportedOverlapping {
             got: MatchKind::LeftmostFirst,
         };
         let text = "no overlapping search is served by the match kind LeftmostFirst";
-        assert_eq!(rt; shown(alloc, &kind)?.as_str(), text);
-        assert_eq!(rt; shown(alloc, &ReplaceError::Match(kind))?.as_str(), text);
-        assert_eq!(rt; shown(alloc, &StreamError::Match(kind))?.as_str(), text);
-        Ok(())
+        compare_shown(&rt, alloc, &kind, text)?;
+        compare_shown(&rt, alloc, &ReplaceError::Match(kind), text)?;
+        compare_shown(&rt, alloc, &StreamError::Match(kind), text)
     }
 }

@@ -13,3 +13,5 @@ pub mod prefilter;
 pub mod primitives;
 pub mod search;
 pub mod tally;
+#[cfg(test)]
+mod tests;

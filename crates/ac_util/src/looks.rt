@@ -194,12 +194,13 @@ pub fn open<'h>(input: &Input<'h>) -> (Tape<'h>, Looks)
 #[cfg(test)]
 mod tests {
     use super::*;
+    use crate::tests::same;
     use std::test::Fail;
 
     #[test]
     fn counts_take_no_bytes(rt: HostRuntime) -> Result<(), Fail> {
-        assert_eq!(rt; size_of::<Looks>(), 0);
-        assert_eq!(rt; size_of::<Tape<'static>>(), size_of::<&'static [u8]>());
+        same(&rt, size_of::<Looks>(), 0);
+        same(&rt, size_of::<Tape<'static>>(), size_of::<&'static [u8]>());
         Ok(())
     }
 
@@ -207,8 +208,8 @@ mod tests {
     fn lends_each_byte(rt: HostRuntime) -> Result<(), Fail> {
         let input = Input::new(b"abc");
         let (mut tape, mut looks) = open(&input);
-        assert_eq!(rt; tape.read(0, &mut looks), b'a');
-        assert_eq!(rt; tape.read(2, &mut looks), b'c');
+        same(&rt, tape.read(0, &mut looks), b'a');
+        same(&rt, tape.read(2, &mut looks), b'c');
         looks.look();
         Ok(())
     }

@@ -1,15 +1,22 @@
 use super::ByteClasses;
 use crate::error::BuildError;
 use crate::patterns::Patterns;
+use crate::tests::same;
 use std::alloc::Global;
 use std::test::Fail;
 
 const NESTED: &[&[u8]] = &[b"b", b"abc", b"abcd"];
 
-/// Returns whether the classes have this many, with this stride and its exponent.
-fn have(classes: &ByteClasses, len: usize, stride: usize, stride2: u32) -> bool {
-    classes.alphabet_len() == len && classes.stride() == stride && classes.stride2() == stride2
-}
+/// Patterns, whether case is ignored, and how many classes there are, the stride and its exponent.
+type Count = (&'static [&'static [u8]], bool, (usize, usize, u32));
+
+const COUNTS: [Count; 5] = [
+    (&[], false, (1, 1, 0)),
+    (&[b""], false, (1, 1, 0)),
+    (NESTED, false, (6, 8, 3)),
+    (&[b"ab"], false, (4, 4, 2)),
+    (&[b"ab"], true, (7, 8, 3)),
+];
 
 /// Returns how many classes these patterns have, the stride and its exponent.
 fn counted(
@@ -24,42 +31,23 @@ fn counted(
 
 #[test]
 fn classes_are_counted(rt: HostRuntime) -> Result<(), Fail> {
-    let alloc = rt.alloc();
-    let counts = [
-        counted(alloc, &[], false)?,
-        counted(alloc, &[b""], false)?,
-        counted(alloc, NESTED, false)?,
-        counted(alloc, &[b"ab"], false)?,
-        counted(alloc, &[b"ab"], true)?,
-    ];
-    let wanted = [(1, 1, 0), (1, 1, 0), (6, 8, 3), (4, 4, 2), (7, 8, 3)];
-    assert_eq!(rt; counts, wanted);
+    for (patterns, ignores_case, wanted) in COUNTS {
+        same(&rt, counted(rt.alloc(), patterns, ignores_case)?, wanted);
+    }
     Ok(())
 }
 
+/// Patterns of `a` and each byte from 80 on, without the last one and with it.
 #[test]
 fn many_bytes_have_many_classes(rt: HostRuntime) -> Result<(), Fail> {
-    let alloc = rt.alloc();
-    let mut texts = Vec::new(alloc);
-    for byte in 0x80..=0xff {
-        texts.push([b'a', byte])?;
+    let mut text = [b'a'; 256];
+    for index in 0..0x80u8 {
+        text[2 * index as usize + 1] = 0x80 + index;
     }
-    let mut patterns: Vec<&[u8]> = Vec::new(alloc);
-    for text in &texts {
-        if patterns.len() == 127 {
-            let stored = Patterns::new(alloc, &patterns)?;
-            assert!(rt;
-                have(&ByteClasses::of(&stored, false), 131, 256, 8),
-                "without the last byte"
-            );
-        }
-        patterns.push(text)?;
+    for count in [127, 128] {
+        let patterns: Vec<&[u8]> = text.chunks(2).take(count).collect(rt.alloc())?;
+        same(&rt, counted(rt.alloc(), &patterns, false)?, (131, 256, 8));
     }
-    let stored = Patterns::new(alloc, &patterns)?;
-    assert!(rt;
-        have(&ByteClasses::of(&stored, false), 131, 256, 8),
-        "with the last byte"
-    );
     Ok(())
 }
 
@@ -78,7 +66,7 @@ fn bytes_have_their_classes(rt: HostRuntime) -> Result<(), Fail> {
         (b'f', 5),
         (255, 5),
     ] {
-        assert_eq!(rt; classes.get(byte), class);
+        same(&rt, classes.get(byte), class);
     }
     Ok(())
 }
@@ -86,8 +74,9 @@ fn bytes_have_their_classes(rt: HostRuntime) -> Result<(), Fail> {
 #[test]
 fn each_byte_is_a_class_of_its_own(rt: HostRuntime) {
     let classes = ByteClasses::singletons();
-    assert!(rt; have(&classes, 256, 256, 8));
+    let sizes = (classes.alphabet_len(), classes.stride(), classes.stride2());
+    same(&rt, sizes, (256, 256, 8));
     for byte in 0..=255 {
-        assert_eq!(rt; classes.get(byte), byte);
+        same(&rt, classes.get(byte), byte);
     }
 }

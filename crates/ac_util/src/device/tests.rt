@@ -4,6 +4,7 @@ mod reads;
 mod writes;
 
 use super::{Bytes, FromRead, IntoWrite, Sink, Source, Written};
+use crate::tests::same;
 use reads::Drops;
 use std::alloc::Global;
 use std::io;
@@ -84,19 +85,19 @@ fn compare_calls(rt: &impl Abort, alloc: Global, bytes: &mut [u8]) {
         answers: ANSWERS,
     });
     for answer in ANSWERS {
-        assert_eq!(rt; read(&mut source, bytes), *answer);
+        same(rt, read(&mut source, bytes), *answer);
     }
     drop(source);
-    assert_eq!(rt; reads.as_slice(), [bytes.len(); 6].as_slice());
+    same(rt, reads.as_slice(), [bytes.len(); 6].as_slice());
     let mut sink = IntoWrite::new(Logs {
         calls: &mut writes,
         answers: ANSWERS,
     });
     for answer in ANSWERS {
-        assert_eq!(rt; write(&mut sink, bytes), *answer);
+        same(rt, write(&mut sink, bytes), *answer);
     }
     drop(sink);
-    assert_eq!(rt; writes.as_slice(), [bytes.len(); 6].as_slice());
+    same(rt, writes.as_slice(), [bytes.len(); 6].as_slice());
 }
 
 #[test]
@@ -114,22 +115,24 @@ fn large_pieces_are_written_whole(rt: HostRuntime) -> Result<(), Fail> {
     bytes.resize(LARGE, b'-')?;
     let mut sink = Written::new(rt.alloc());
     for _ in 0..5 {
-        assert_eq!(rt; write(&mut sink, &bytes), Ok(LARGE));
+        same(&rt, write(&mut sink, &bytes), Ok(LARGE));
     }
-    assert_eq!(rt; sink.bytes().len(), 5 * LARGE);
+    same(&rt, sink.bytes().len(), 5 * LARGE);
     Ok(())
 }
 
 #[test]
 fn adapters_take_no_bytes(rt: HostRuntime) {
-    assert_eq!(rt; size_of::<Bytes<'static>>(), size_of::<&'static [u8]>());
-    assert_eq!(rt;
+    same(&rt, size_of::<Bytes<'static>>(), size_of::<&'static [u8]>());
+    same(
+        &rt,
         size_of::<FromRead<Drops<'static>>>(),
-        size_of::<Drops<'static>>()
+        size_of::<Drops<'static>>(),
     );
-    assert_eq!(rt; size_of::<Written<Global>>(), size_of::<Vec<u8>>());
-    assert_eq!(rt;
+    same(&rt, size_of::<Written<Global>>(), size_of::<Vec<u8>>());
+    same(
+        &rt,
         size_of::<IntoWrite<Narrow<'static>>>(),
-        size_of::<Narrow<'static>>()
+        size_of::<Narrow<'static>>(),
     );
 }

@@ -1,9 +1,10 @@
 use super::History;
+use crate::tests::same;
 use std::test::Fail;
 
 #[test]
 fn histories_take_no_bytes(rt: HostRuntime) -> Result<(), Fail> {
-    assert_eq!(rt; size_of::<History>(), 0);
+    same(&rt, size_of::<History>(), 0);
     Ok(())
 }
 
@@ -12,6 +13,6 @@ fn bytes_come_behind_others(rt: HostRuntime) -> Result<(), Fail> {
     let first = History::with(&History::empty(), b"ab");
     let second = History::with(&first, b"");
     let third = History::with(&second, b"c");
-    assert_eq!(rt; size_of_val(&third), 0);
+    same(&rt, size_of_val(&third), 0);
     Ok(())
 }

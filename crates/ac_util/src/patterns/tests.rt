@@ -1,6 +1,7 @@
 use super::Patterns;
 use super::pieces::Pieces;
 use crate::error::BuildError;
+use crate::tests::same;
 use std::alloc::{AllocError, Allocator};
 use std::test::Fail;
 
@@ -43,20 +44,21 @@ fn patterns_are_stored(rt: HostRuntime) -> Result<(), Fail> {
 
 #[test]
 fn pieces_and_their_copy_are_stored_in_order(rt: HostRuntime) -> Result<(), Fail> {
+    let wanted: [&[usize]; 3] = [&[7, 9], &[], &[8]];
     let mut pieces: Pieces<usize, _> = Pieces::new(rt.alloc())?;
-    pieces.push(&[7, 9])?;
-    pieces.push(&[])?;
-    pieces.push(&[8])?;
+    for piece in wanted {
+        pieces.push(piece)?;
+    }
     let copy = pieces.clone()?;
-    assert_eq!(rt; pieces.len(), 3);
-    assert_eq!(rt; copy.len(), 3);
-    assert!(rt; copy.get(0) == [7, 9].as_slice());
-    assert!(rt; copy.get(1).is_empty());
-    assert!(rt; copy.get(2) == [8].as_slice());
+    same(&rt, pieces.len(), 3);
+    for (index, piece) in wanted.into_iter().enumerate() {
+        assert!(rt; index < copy.len());
+        same(&rt, copy.get(index), piece);
+    }
     Ok(())
 }
 
 #[test]
 fn a_refused_request_becomes_want_of_memory(rt: HostRuntime) {
-    assert_eq!(rt; BuildError::from(AllocError), BuildError::Memory);
+    same(&rt, BuildError::from(AllocError), BuildError::Memory);
 }

@@ -4,6 +4,7 @@ use super::{Query, find, listing, replace_walk, walk};
 use crate::search::Anchored::{No, Yes};
 use crate::search::MatchKind::{LeftmostFirst, LeftmostLongest, Standard};
 use crate::search::{Anchored, Match, MatchKind, Span};
+use crate::tests::same;
 use std::alloc::{AllocError, Global};
 use std::test::Fail;
 
@@ -95,25 +96,25 @@ fn exchanges(
 #[test]
 fn each_kind_finds_its_own(rt: HostRuntime) {
     let nested = whole(NESTED, false, b"abcd", No);
-    assert_eq!(rt; found(Standard, &nested), Some((0, 1, 2)));
-    assert_eq!(rt; found(LeftmostFirst, &nested), Some((1, 0, 3)));
-    assert_eq!(rt; found(LeftmostLongest, &nested), Some((2, 0, 4)));
+    same(&rt, found(Standard, &nested), Some((0, 1, 2)));
+    same(&rt, found(LeftmostFirst, &nested), Some((1, 0, 3)));
+    same(&rt, found(LeftmostLongest, &nested), Some((2, 0, 4)));
     let empty = whole(&[b"abc", b"bd", b""], false, b"abd", No);
-    assert_eq!(rt; found(LeftmostFirst, &empty), Some((2, 0, 0)));
+    same(&rt, found(LeftmostFirst, &empty), Some((2, 0, 0)));
     let none = whole(&[], false, b"abc", No);
-    assert_eq!(rt; found(Standard, &none), None);
+    same(&rt, found(Standard, &none), None);
 }
 
 #[test]
 fn settings_change_what_is_found(rt: HostRuntime) {
     let folded = whole(&[b"ab", b"AB"], true, b"aB", No);
-    assert_eq!(rt; found(Standard, &folded), Some((0, 0, 2)));
+    same(&rt, found(Standard, &folded), Some((0, 0, 2)));
     let bracket = whole(&[b"["], true, b"{", No);
-    assert_eq!(rt; found(Standard, &bracket), None);
+    same(&rt, found(Standard, &bracket), None);
     let anchored = whole(NESTED, false, b"abcd", Yes);
-    assert_eq!(rt; found(Standard, &anchored), Some((1, 0, 3)));
+    same(&rt, found(Standard, &anchored), Some((1, 0, 3)));
     let further = whole(NESTED, false, b"xb", Yes);
-    assert_eq!(rt; found(Standard, &further), None);
+    same(&rt, found(Standard, &further), None);
 }
 
 #[test]
@@ -161,12 +162,12 @@ fn listings(rt: HostRuntime) -> Result<(), Fail> {
 
 #[test]
 fn spans(rt: HostRuntime) {
-    assert_eq!(rt; abc_in(1, 4), Some((0, 1, 4)));
-    assert_eq!(rt; [abc_in(1, 3), abc_in(2, 5), abc_in(5, 5)], [None; 3]);
+    same(&rt, abc_in(1, 4), Some((0, 1, 4)));
+    same(&rt, [abc_in(1, 3), abc_in(2, 5), abc_in(5, 5)], [None; 3]);
     let backward = Query::new(&[b""], false, b"abc", No, Span { start: 4, end: 3 });
-    assert_eq!(rt; found(LeftmostFirst, &backward), None);
+    same(&rt, found(LeftmostFirst, &backward), None);
     let later = Query::new(NESTED, false, b"foo abcd", Yes, Span { start: 4, end: 8 });
-    assert_eq!(rt; found(LeftmostFirst, &later), Some((1, 4, 7)));
+    same(&rt, found(LeftmostFirst, &later), Some((1, 4, 7)));
 }
 
 #[test]

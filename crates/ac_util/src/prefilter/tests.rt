@@ -1,6 +1,7 @@
 use super::*;
 use crate::looks::open;
 use crate::search::Input;
+use crate::tests::same;
 use std::test::Fail;
 
 /// Returns the prefilter of a search for these patterns.
@@ -46,16 +47,17 @@ fn candidate_of(
 #[test]
 fn a_single_pattern_is_a_needle(rt: HostRuntime) -> Result<(), Fail> {
     let alloc = rt.alloc();
-    assert_eq!(rt; count_of(alloc, &[b"foo"], false)?, Some(0));
+    same(&rt, count_of(alloc, &[b"foo"], false)?, Some(0));
     let answers = [
         candidate_of(alloc, &[b"foo"], false, b"xxfoo", 0, 5)?,
         candidate_of(alloc, &[b"foo"], false, b"xxfoo", 0, 4)?,
         candidate_of(alloc, &[b"foo"], false, b"xxfoo", 3, 5)?,
     ];
     let found = Candidate::Match(Match::must(0, 2..5));
-    assert_eq!(rt;
+    same(
+        &rt,
         answers,
-        [Some(found), Some(Candidate::None), Some(Candidate::None)]
+        [Some(found), Some(Candidate::None), Some(Candidate::None)],
     );
     Ok(())
 }
@@ -68,8 +70,8 @@ fn a_tape_is_skipped_to_a_first_byte(rt: HostRuntime) -> Result<(), Fail> {
     let Some(Prefilter::Bytes(first)) = &prefilter else {
         return Err(Fail::new("two patterns have no first bytes"));
     };
-    assert_eq!(rt; tape.skip_to(*first, 0, 5, &mut looks), Some(2));
-    assert_eq!(rt; tape.skip_to(*first, 3, 5, &mut looks), None);
+    same(&rt, tape.skip_to(*first, 0, 5, &mut looks), Some(2));
+    same(&rt, tape.skip_to(*first, 3, 5, &mut looks), None);
     Ok(())
 }
 
@@ -81,11 +83,12 @@ fn a_tape_is_searched_for_a_needle(rt: HostRuntime) -> Result<(), Fail> {
     let Some(Prefilter::Needle(needle)) = &prefilter else {
         return Err(Fail::new("a single pattern is no needle"));
     };
-    assert_eq!(rt;
+    same(
+        &rt,
         tape.find_needle(needle, 0, 5, &mut looks),
-        Some(Match::must(0, 2..5))
+        Some(Match::must(0, 2..5)),
     );
-    assert_eq!(rt; tape.find_needle(needle, 0, 4, &mut looks), None);
+    same(&rt, tape.find_needle(needle, 0, 4, &mut looks), None);
     Ok(())
 }
 
@@ -99,7 +102,7 @@ fn patterns_begin_with_few_bytes(rt: HostRuntime) -> Result<(), Fail> {
         count_of(alloc, &four, false)?,
         count_of(alloc, &[b"ab", b"ab"], false)?,
     ];
-    assert_eq!(rt; counts, [Some(2), Some(3), Some(1)]);
+    same(&rt, counts, [Some(2), Some(3), Some(1)]);
     let answers = [
         candidate_of(alloc, &two, false, b"xxbar", 0, 5)?,
         candidate_of(alloc, &two, false, b"xxxx", 0, 4)?,
@@ -110,7 +113,7 @@ fn patterns_begin_with_few_bytes(rt: HostRuntime) -> Result<(), Fail> {
         Some(Candidate::None),
         Some(Candidate::PossibleStart(1)),
     ];
-    assert_eq!(rt; answers, wanted);
+    same(&rt, answers, wanted);
     Ok(())
 }
 
@@ -122,7 +125,7 @@ fn nothing_occurs_in_a_span_that_starts_past_its_end(rt: HostRuntime) -> Result<
         candidate_of(alloc, &[b"foo"], false, b"xfoob", 4, 3)?,
         candidate_of(alloc, &two, false, b"xfoob", 4, 3)?,
     ];
-    assert_eq!(rt; answers, [Some(Candidate::None), Some(Candidate::None)]);
+    same(&rt, answers, [Some(Candidate::None), Some(Candidate::None)]);
     Ok(())
 }
 
@@ -134,9 +137,9 @@ fn case_counts_or_does_not(rt: HostRuntime) -> Result<(), Fail> {
         count_of(alloc, &[b"foo", b"bar"], true)?,
         count_of(alloc, &[b"1a", b"foo"], true)?,
     ];
-    assert_eq!(rt; counts, [Some(2), None, Some(3)]);
+    same(&rt, counts, [Some(2), None, Some(3)]);
     let start = candidate_of(alloc, &[b"foo"], true, b"xFx", 0, 3)?;
-    assert_eq!(rt; start, Some(Candidate::PossibleStart(1)));
+    same(&rt, start, Some(Candidate::PossibleStart(1)));
     Ok(())
 }
 
@@ -151,6 +154,6 @@ fn many_or_empty_patterns_have_none(rt: HostRuntime) -> Result<(), Fail> {
         count_of(alloc, &many, false)?,
         count_of(alloc, &many[..100], false)?,
     ];
-    assert_eq!(rt; counts, [None, None, None, None, Some(1)]);
+    same(&rt, counts, [None, None, None, None, Some(1)]);
     Ok(())
 }

@@ -1,4 +1,5 @@
 use super::{PatternID, Plain, SmallIndex, StateID, TooLarge};
+use crate::tests::same;
 use std::cmp::Ordering;
 use std::cmp::Ordering::{Equal, Greater, Less};
 use std::hash::{DefaultHasher, Hash, Hasher};
@@ -24,9 +25,9 @@ fn compared(left: StateID, right: StateID) -> (Ordering, Option<Ordering>, bool,
 #[test]
 fn numbers_end_at_the_greatest(rt: HostRuntime) {
     let greatest = [PatternID::MAX, StateID::MAX, SmallIndex::<Plain>::MAX];
-    assert_eq!(rt; greatest, [2147483646; 3]);
+    same(&rt, greatest, [2147483646; 3]);
     let limits = [PatternID::LIMIT, StateID::LIMIT, SmallIndex::<Plain>::LIMIT];
-    assert_eq!(rt; limits, [2147483647; 3]);
+    same(&rt, limits, [2147483647; 3]);
     let made = [
         StateID::new(2147483646),
         StateID::new(2147483647),
@@ -41,34 +42,36 @@ fn numbers_end_at_the_greatest(rt: HostRuntime) {
             attempted: usize::MAX,
         }),
     ];
-    assert_eq!(rt; made, wanted);
-    assert_eq!(rt; PatternID::must(2147483646).as_usize(), 2147483646);
+    same(&rt, made, wanted);
+    same(&rt, PatternID::must(2147483646).as_usize(), 2147483646);
 }
 
 #[test]
 fn numbers_are_given_in_each_size(rt: HostRuntime) -> Result<(), Fail> {
     let greatest = PatternID::must(2147483646);
-    assert_eq!(rt;
+    same(
+        &rt,
         (greatest.as_u32(), greatest.as_u64()),
-        (2147483646, 2147483646)
+        (2147483646, 2147483646),
     );
-    assert_eq!(rt;
+    same(
+        &rt,
         (greatest.one_more(), StateID::must(0).one_more()),
-        (2147483647, 1)
+        (2147483647, 1),
     );
     let shown = format!(in rt.alloc(); "{:?} {:?}", PatternID::must(3), StateID::must(4))?;
-    assert_eq!(rt; shown.as_str(), "PatternID(3) StateID(4)");
+    same(&rt, shown.as_str(), "PatternID(3) StateID(4)");
     let shown = format!(in rt.alloc(); "{:?}", SmallIndex::<Plain>::must(5))?;
-    assert_eq!(rt; shown.as_str(), "SmallIndex(5)");
+    same(&rt, shown.as_str(), "SmallIndex(5)");
     Ok(())
 }
 
 #[test]
 fn numbers_are_0_by_default(rt: HostRuntime) {
     let plain: SmallIndex = SmallIndex::default();
-    assert_eq!(rt; plain.as_usize(), 0);
-    assert_eq!(rt; PatternID::default(), PatternID::must(0));
-    assert_eq!(rt; StateID::default(), StateID::must(0));
+    same(&rt, plain.as_usize(), 0);
+    same(&rt, PatternID::default(), PatternID::must(0));
+    same(&rt, StateID::default(), StateID::must(0));
 }
 
 #[test]
@@ -78,11 +81,12 @@ fn numbers_are_in_order(rt: HostRuntime) {
         StateID::must(256),
         StateID::must(2147483646),
     );
-    assert_eq!(rt; compared(low, low), (Equal, Some(Equal), true, true));
-    assert_eq!(rt; compared(low, next), (Less, Some(Less), false, false));
-    assert_eq!(rt;
+    same(&rt, compared(low, low), (Equal, Some(Equal), true, true));
+    same(&rt, compared(low, next), (Less, Some(Less), false, false));
+    same(
+        &rt,
         compared(greatest, low),
-        (Greater, Some(Greater), false, false)
+        (Greater, Some(Greater), false, false),
     );
     assert!(rt; low < next);
 }

@@ -4,6 +4,7 @@ ghost use Rattle.std.specs.Prelude.{false};
 use super::{BROKEN, Outcome, read};
 use crate::device::{Bytes, FromRead, Source};
 use crate::tally::Tally;
+use crate::tests::same;
 use std::io;
 use std::io::{ErrorKind, Read};
 use std::marker::Model;
@@ -94,8 +95,8 @@ fn bytes_come_in_order(rt: HostRuntime) {
         read(&mut source, &mut four),
         read(&mut source, &mut []),
     ];
-    assert_eq!(rt; answers, [Ok(0), Ok(2), Ok(0), Ok(2), Ok(0), Ok(0)]);
-    assert_eq!(rt; (two, four), (*b"ab", *b"cd--"));
+    same(&rt, answers, [Ok(0), Ok(2), Ok(0), Ok(2), Ok(0), Ok(0)]);
+    same(&rt, (two, four), (*b"ab", *b"cd--"));
 }
 
 #[test]
@@ -106,8 +107,8 @@ fn a_pause_is_no_end_of_the_bytes(rt: HostRuntime) {
         pauses: Tally::zero(),
     };
     let (answers, places) = five_reads(&mut source);
-    assert_eq!(rt; answers, [Ok(2), Ok(1), Ok(0), Ok(2), Ok(0)]);
-    assert_eq!(rt; places, [*b"ab", *b"c-", *b"--", *b"de", *b"--"]);
+    same(&rt, answers, [Ok(2), Ok(1), Ok(0), Ok(2), Ok(0)]);
+    same(&rt, places, [*b"ab", *b"c-", *b"--", *b"de", *b"--"]);
 }
 
 #[test]
@@ -133,6 +134,6 @@ fn all_that_has_room_is_read_at_once(rt: HostRuntime) {
         read(&mut source, &mut second),
         read(&mut source, &mut []),
     ];
-    assert_eq!(rt; answers, [Ok(4), Ok(1), Ok(0), Ok(0)]);
-    assert_eq!(rt; (first, second), (*b"abcd", *b"e---"));
+    same(&rt, answers, [Ok(4), Ok(1), Ok(0), Ok(0)]);
+    same(&rt, (first, second), (*b"abcd", *b"e---"));
 }

@@ -1,6 +1,7 @@
 //! Of writers: what they take of a piece, and what they hold after a failure.
 use super::{BROKEN, Outcome, write};
 use crate::device::{IntoWrite, Written};
+use crate::tests::same;
 use std::alloc::{AllocError, Global};
 use std::io;
 use std::io::{ErrorKind, Write};
@@ -76,23 +77,23 @@ fn all_that_has_room_is_written_at_once(rt: HostRuntime) -> Result<(), Fail> {
         write(&mut sink, b""),
     ];
     drop(sink);
-    assert_eq!(rt; answers, [Ok(4), Ok(1), Ok(0)]);
-    assert_eq!(rt; held.as_slice(), b"abcde".as_slice());
+    same(&rt, answers, [Ok(4), Ok(1), Ok(0)]);
+    same(&rt, held.as_slice(), b"abcde".as_slice());
     Ok(())
 }
 
 #[test]
 fn what_is_written_is_held(rt: HostRuntime) {
     let mut sink = Written::new(rt.alloc());
-    assert_eq!(rt; sink.bytes(), b"".as_slice());
+    same(&rt, sink.bytes(), b"".as_slice());
     let answers = [
         write_again(&mut sink, b"ab"),
         write_again(&mut sink, b""),
         write_again(&mut sink, b"c"),
         write_again(&mut sink, b"defghijklmn"),
     ];
-    assert_eq!(rt; answers, [Ok(2), Ok(0), Ok(1), Ok(11)]);
-    assert_eq!(rt; sink.bytes(), b"abcdefghijklmn".as_slice());
+    same(&rt, answers, [Ok(2), Ok(0), Ok(1), Ok(11)]);
+    same(&rt, sink.bytes(), b"abcdefghijklmn".as_slice());
 }
 
 #[test]

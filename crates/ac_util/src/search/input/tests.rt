@@ -1,5 +1,6 @@
 use super::super::{Anchored, Span};
 use super::Input;
+use crate::tests::same;
 use std::ops::Range;
 
 /// Returns the options of an input and its span.
@@ -14,15 +15,15 @@ fn options(input: &Input) -> (Anchored, bool, Range<usize>) {
 #[test]
 fn an_input_begins_whole(rt: HostRuntime) {
     let whole = Input::new(b"foobar");
-    assert_eq!(rt; whole.haystack(), b"foobar".as_slice());
-    assert_eq!(rt; options(&whole), (Anchored::No, false, 0..6));
+    same(&rt, whole.haystack(), b"foobar".as_slice());
+    same(&rt, options(&whole), (Anchored::No, false, 0..6));
     assert!(rt; !whole.is_done());
     let nothing = Input::new(b"");
-    assert_eq!(rt; nothing.get_range(), 0..0);
+    same(&rt, nothing.get_range(), 0..0);
     assert!(rt; !nothing.is_done());
     let text = Input::of_text("\u{e9}b");
-    assert_eq!(rt; text.haystack(), b"\xc3\xa9b".as_slice());
-    assert_eq!(rt; text.get_range(), 0..3);
+    same(&rt, text.haystack(), b"\xc3\xa9b".as_slice());
+    same(&rt, text.get_range(), 0..3);
 }
 
 #[test]
@@ -41,9 +42,9 @@ fn spans_are_as_set(rt: HostRuntime) {
         whole.span(span).get_span(),
         whole.range(3..4).get_span(),
     ];
-    assert_eq!(rt; spans, [span; 5]);
-    assert_eq!(rt; (ranged.start(), ranged.end()), (3, 4));
-    assert_eq!(rt; ranged.haystack(), b"foobar".as_slice());
+    same(&rt, spans, [span; 5]);
+    same(&rt, (ranged.start(), ranged.end()), (3, 4));
+    same(&rt, ranged.haystack(), b"foobar".as_slice());
 }
 
 #[test]
@@ -55,7 +56,7 @@ fn a_span_past_its_end_is_done(rt: HostRuntime) {
         whole.range(4..3).is_done(),
         whole.range(7..6).is_done(),
     ];
-    assert_eq!(rt; past, [false, false, true, true]);
+    same(&rt, past, [false, false, true, true]);
 }
 
 #[test]
@@ -63,13 +64,13 @@ fn options_are_as_set(rt: HostRuntime) {
     let mut set = Input::new(b"foobar");
     set.set_range(3..6);
     set.set_anchored(Anchored::Yes);
-    assert_eq!(rt; options(&set), (Anchored::Yes, false, 3..6));
+    same(&rt, options(&set), (Anchored::Yes, false, 3..6));
     set.set_earliest(true);
-    assert_eq!(rt; options(&set), (Anchored::Yes, true, 3..6));
+    same(&rt, options(&set), (Anchored::Yes, true, 3..6));
     let early = Input::new(b"foobar").range(3..6).earliest(true);
-    assert_eq!(rt; options(&early), (Anchored::No, true, 3..6));
+    same(&rt, options(&early), (Anchored::No, true, 3..6));
     let built = early.anchored(Anchored::Yes);
-    assert_eq!(rt; options(&built), (Anchored::Yes, true, 3..6));
+    same(&rt, options(&built), (Anchored::Yes, true, 3..6));
     let undone = built.anchored(Anchored::No).earliest(false);
-    assert_eq!(rt; options(&undone), (Anchored::No, false, 3..6));
+    same(&rt, options(&undone), (Anchored::No, false, 3..6));
 }
