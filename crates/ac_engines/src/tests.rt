@@ -6,7 +6,7 @@ use std::alloc::{AllocError, Global};
 use std::fmt::Debug;
 use std::process::Abort;
 
-mod searches;
+pub(crate) mod searches;
 mod states;
 
 /// A pattern number, a start and an end.

@@ -1,8 +1,8 @@
 //! The sizes of DFAs that were built.
-use super::Builder;
 use crate::tests::same_by;
-use ac_automaton::nfa::noncontiguous;
+use crate::tests::searches::{dfa_over, trie_of};
 use ac_util::error::BuildError;
+use ac_util::search::Anchored::No;
 use ac_util::search::MatchKind::{LeftmostFirst, Standard};
 use ac_util::search::StartKind::{Anchored, Both, Unanchored};
 use ac_util::search::{MatchKind, StartKind};
@@ -35,12 +35,8 @@ fn sizes_of(
     start_kind: StartKind,
     patterns: &[&[u8]],
 ) -> Result<[usize; 3], BuildError> {
-    let mut builder = noncontiguous::Builder::new();
-    let trie = builder.match_kind(kind).build(alloc, patterns)?;
-    let mut builder = Builder::new();
-    let dfa = builder
-        .start_kind(start_kind)
-        .build_from_noncontiguous(alloc, &trie)?;
+    let trie = trie_of(alloc, (kind, false, No), patterns)?;
+    let dfa = dfa_over(alloc, &trie, start_kind)?;
     let entries = dfa.table.len();
     Ok([
         trie.states_len(),

@@ -17,7 +17,7 @@ use std::process::Abort;
 use std::test::Fail;
 
 /// A match kind, whether case is ignored, and whether searches are anchored.
-type Search = (MatchKind, bool, Anchored);
+pub(crate) type Search = (MatchKind, bool, Anchored);
 
 const STANDARD: Search = (Standard, false, No);
 
@@ -142,7 +142,7 @@ const WALKS: &[Row] = &[
 ];
 
 /// Returns the trie of patterns.
-fn trie_of(
+pub(crate) fn trie_of(
     alloc: Global,
     search: Search,
     patterns: &[&[u8]],
@@ -167,7 +167,7 @@ fn contiguous_over(
 }
 
 /// Returns the DFA of a trie, whose kind and case count, and not the builder's.
-fn dfa_over(
+pub(crate) fn dfa_over(
     alloc: Global,
     trie: &noncontiguous::NFA,
     start_kind: StartKind,
@@ -181,10 +181,10 @@ fn dfa_over(
 }
 
 /// Compares what an engine's clone answers with what a row says.
-fn compare_walk<E: Automaton + Clone + Debug>(
+fn compare_walk<E: Automaton + Clone + Debug + Drop>(
     rt: &impl Abort,
     alloc: Global,
-    engine: &E,
+    engine: E,
     row: &Row,
 ) -> Result<(), Fail> {
     let &((kind, _, anchored), patterns, haystack, walk) = row;
@@ -199,20 +199,23 @@ fn compare_walk<E: Automaton + Clone + Debug>(
     Ok(())
 }
 
+/// Compares what each engine answers with what a row says, the DFA with both starts and with one.
+fn compare_engines(rt: &impl Abort, alloc: Global, row: &Row) -> Result<(), Fail> {
+    let start_kind = match row.0.2 {
+        No => StartKind::Unanchored,
+        Yes => StartKind::Anchored,
+    };
+    let trie = trie_of(alloc, row.0, row.1)?;
+    compare_walk(rt, alloc, contiguous_over(alloc, &trie)?, row)?;
+    compare_walk(rt, alloc, dfa_over(alloc, &trie, StartKind::Both)?, row)?;
+    compare_walk(rt, alloc, dfa_over(alloc, &trie, start_kind)?, row)?;
+    compare_walk(rt, alloc, trie, row)
+}
+
 #[test]
 fn engines_walk(rt: HostRuntime) -> Result<(), Fail> {
-    let alloc = rt.alloc();
     for row in WALKS {
-        let trie = trie_of(alloc, row.0, row.1)?;
-        compare_walk(&rt, alloc, &trie, row)?;
-        compare_walk(&rt, alloc, &contiguous_over(alloc, &trie)?, row)?;
-        let start_kind = match row.0.2 {
-            No => StartKind::Unanchored,
-            Yes => StartKind::Anchored,
-        };
-        for start_kind in [start_kind, StartKind::Both] {
-            compare_walk(&rt, alloc, &dfa_over(alloc, &trie, start_kind)?, row)?;
-        }
+        compare_engines(&rt, rt.alloc(), row)?;
     }
     Ok(())
 }
@@ -243,26 +246,30 @@ const LISTINGS: &[Listing] = &[
 ];
 
 /// Compares what an engine lists with what a row says.
-fn compare_listing<E: Automaton + Debug>(
+fn compare_listing<E: Automaton + Debug + Drop>(
     rt: &impl Abort,
     alloc: Global,
-    engine: &E,
+    engine: E,
     row: &Listing,
 ) -> Result<(), Fail> {
     let items = engine.try_find_overlapping_iter(Input::new(row.1))?;
     let listed = triples_of(alloc, items)?;
-    same_by(rt, listed.as_slice(), row.2, engine);
+    same_by(rt, listed.as_slice(), row.2, &engine);
     Ok(())
+}
+
+/// Compares what each engine lists with what a row says.
+fn compare_listings(rt: &impl Abort, alloc: Global, row: &Listing) -> Result<(), Fail> {
+    let trie = trie_of(alloc, STANDARD, row.0)?;
+    compare_listing(rt, alloc, contiguous_over(alloc, &trie)?, row)?;
+    compare_listing(rt, alloc, dfa_over(alloc, &trie, StartKind::Both)?, row)?;
+    compare_listing(rt, alloc, trie, row)
 }
 
 #[test]
 fn engines_list(rt: HostRuntime) -> Result<(), Fail> {
-    let alloc = rt.alloc();
     for row in LISTINGS {
-        let trie = trie_of(alloc, STANDARD, row.0)?;
-        compare_listing(&rt, alloc, &trie, row)?;
-        compare_listing(&rt, alloc, &contiguous_over(alloc, &trie)?, row)?;
-        compare_listing(&rt, alloc, &dfa_over(alloc, &trie, StartKind::Both)?, row)?;
+        compare_listings(&rt, rt.alloc(), row)?;
     }
     Ok(())
 }
@@ -281,19 +288,19 @@ fn compare_cores<A: Automaton>(rt: &impl Abort, automaton: &A) -> Result<(), Mat
 }
 
 /// Compares what an automaton over the pronouns says of them, and what its cores find.
-fn compare_pronouns<A: Automaton>(rt: &impl Abort, automaton: &A) -> Result<(), MatchError> {
+fn compare_pronouns<A: Automaton + Drop>(rt: &impl Abort, automaton: A) -> Result<(), MatchError> {
     let lengths = (automaton.min_pattern_len(), automaton.max_pattern_len());
     same(rt, lengths, (2, 4));
     assert!(rt; automaton.patterns_len() == 4 && automaton.memory_usage() > 0);
     same(rt, automaton.pattern_len(PatternID::must(3)), 4);
-    compare_cores(rt, automaton)
+    compare_cores(rt, &automaton)
 }
 
 #[test]
 fn engines_know_their_patterns(rt: HostRuntime) -> Result<(), Fail> {
-    compare_pronouns(&rt, &noncontiguous::NFA::new(rt.alloc(), &PRONOUNS)?)?;
-    compare_pronouns(&rt, &contiguous::NFA::new(rt.alloc(), &PRONOUNS)?)?;
-    compare_pronouns(&rt, &dfa::DFA::new(rt.alloc(), &PRONOUNS)?)?;
+    compare_pronouns(&rt, noncontiguous::NFA::new(rt.alloc(), &PRONOUNS)?)?;
+    compare_pronouns(&rt, contiguous::NFA::new(rt.alloc(), &PRONOUNS)?)?;
+    compare_pronouns(&rt, dfa::DFA::new(rt.alloc(), &PRONOUNS)?)?;
     Ok(())
 }
 

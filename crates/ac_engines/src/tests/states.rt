@@ -33,38 +33,54 @@ fn state_after<A: Automaton>(
 }
 
 /// Compares the states of an automaton over the pronouns.
-fn compare_states<A: Automaton>(rt: &impl Abort, automaton: &A) -> Result<(), MatchError> {
-    let she = state_after(automaton, No, *b"she")?;
+fn compare_states<A: Automaton + Drop>(rt: &impl Abort, automaton: A) -> Result<(), MatchError> {
+    let she = state_after(&automaton, No, *b"she")?;
     assert!(rt; automaton.is_match(she) && automaton.match_len(she) == 2);
     let (first, second) = (
         automaton.match_pattern(she, 0),
         automaton.match_pattern(she, 1),
     );
     same(rt, (first.as_usize(), second.as_usize()), (1, 0));
-    let lost = state_after(automaton, No, *b"shx")?;
+    let lost = state_after(&automaton, No, *b"shx")?;
     let kinds = (
         automaton.is_start(lost),
         automaton.is_special(lost),
         automaton.is_match(lost),
     );
     same(rt, kinds, (true, true, false));
-    let dead = state_after(automaton, Yes, *b"ush")?;
+    let dead = state_after(&automaton, Yes, *b"ush")?;
     let kinds = (automaton.is_dead(dead), automaton.is_match_or_dead(dead));
     same(rt, kinds, (true, true));
     // A step that a state has no transition for goes on at its failure target, and so on.
-    let begun = state_after(automaton, No, *b"xxh")?;
-    same(rt, state_after(automaton, No, *b"shh")?, begun);
+    let begun = state_after(&automaton, No, *b"xxh")?;
+    same(rt, state_after(&automaton, No, *b"shh")?, begun);
     Ok(())
 }
 
 #[test]
 fn each_engine_has_the_same_states(rt: HostRuntime) -> Result<(), Fail> {
-    compare_states(&rt, &noncontiguous::NFA::new(rt.alloc(), &PRONOUNS)?)?;
-    compare_states(&rt, &contiguous::NFA::new(rt.alloc(), &PRONOUNS)?)?;
+    compare_states(&rt, noncontiguous::NFA::new(rt.alloc(), &PRONOUNS)?)?;
+    compare_states(&rt, contiguous::NFA::new(rt.alloc(), &PRONOUNS)?)?;
     let mut builder = dfa::Builder::new();
     builder.start_kind(StartKind::Both);
-    compare_states(&rt, &builder.build(rt.alloc(), &PRONOUNS)?)?;
+    compare_states(&rt, builder.build(rt.alloc(), &PRONOUNS)?)?;
     Ok(())
+}
+
+/// Returns a byte by which a state leads on, how deep the next state is, by how many bytes that one leads on, and its
+/// failure target.
+fn lead_of(
+    rt: &impl Abort,
+    trie: &noncontiguous::NFA,
+    sid: StateID,
+    index: usize,
+) -> (u8, usize, usize, StateID) {
+    let states = trie.states_len();
+    assert!(rt; sid.as_usize() < states);
+    assert!(rt; index < trie.own_len(sid));
+    let (byte, next) = trie.own(sid, index);
+    assert!(rt; FIRST_INNER <= next.as_usize() && next.as_usize() < states);
+    (byte, trie.depth(next), trie.own_len(next), trie.fail(next))
 }
 
 /// Both patterns begin at the start, and what is after one byte fails to it.
@@ -74,20 +90,11 @@ fn a_trie_is_read(rt: HostRuntime) -> Result<(), Fail> {
     let settings = (trie.fold(), trie.wants_prefilter(), trie.patterns().len());
     same(&rt, settings, (false, true, 2));
     let start = trie.start_state(No)?;
+    assert!(rt; start.as_usize() < trie.states_len());
     let sizes = (trie.states_len(), trie.depth(start), trie.own_len(start));
     same(&rt, sizes, (9, 0, 2));
-    for (index, first) in [b'a', b'b'].into_iter().enumerate() {
-        assert!(rt; index < trie.own_len(start));
-        let (byte, child) = trie.own(start, index);
-        assert!(rt; FIRST_INNER <= child.as_usize() && child.as_usize() < trie.states_len());
-        let read = (
-            byte,
-            trie.depth(child),
-            trie.own_len(child),
-            trie.fail(child),
-        );
-        same(&rt, read, (first, 1, 1, start));
-    }
+    same(&rt, lead_of(&rt, &trie, start, 0), (b'a', 1, 1, start));
+    same(&rt, lead_of(&rt, &trie, start, 1), (b'b', 1, 1, start));
     Ok(())
 }
 
@@ -99,33 +106,17 @@ fn too_large(requested: u64) -> BuildError {
     }
 }
 
-/// How many rows a table has, the exponent of its stride, and how many entries there are, or which number is refused.
-const TABLES: [(u64, u32, Result<u64, u64>); 5] = [
-    (9, 3, Ok(72)),
-    (8388608, 8, Ok(2147483648)),
-    (8388609, 8, Err(2147483648)),
-    (2147483647, 0, Ok(2147483647)),
-    (2147483648, 0, Err(2147483647)),
-];
-
 #[test]
 fn sizes_have_limits(rt: HostRuntime) {
-    for (rows, stride2, wanted) in TABLES {
-        assert!(rt; 1 <= rows && rows <= 4294967290 && stride2 <= 8);
-        same(
-            &rt,
-            dfa::table_len(rows, stride2),
-            wanted.map_err(too_large),
-        );
-    }
-    for sum in [2147483646, 2147483647] {
-        let wanted = if sum < 2147483647 {
-            Ok(sum)
-        } else {
-            Err(too_large(sum))
-        };
-        same(&rt, check_words(sum), wanted);
-    }
+    same(&rt, dfa::table_len(9, 3), Ok(72));
+    same(&rt, dfa::table_len(8388608, 8), Ok(2147483648));
+    let refused = Err(too_large(2147483648));
+    same(&rt, dfa::table_len(8388609, 8), refused);
+    same(&rt, dfa::table_len(2147483647, 0), Ok(2147483647));
+    let refused = Err(too_large(2147483647));
+    same(&rt, dfa::table_len(2147483648, 0), refused);
+    same(&rt, check_words(2147483646), Ok(2147483646));
+    same(&rt, check_words(2147483647), refused);
 }
 
 /// The depth of a state, the dense depth, how many transitions and matches it has, and the form that it takes.
