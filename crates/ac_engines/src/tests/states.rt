@@ -116,6 +116,7 @@ fn sizes_have_limits(rt: HostRuntime) {
     let refused = Err(too_large(2147483647));
     same(&rt, dfa::table_len(2147483648, 0), refused);
     same(&rt, check_words(2147483646), Ok(2147483646));
+    let refused = Err(too_large(2147483647));
     same(&rt, check_words(2147483647), refused);
 }
 
