@@ -19,13 +19,13 @@ mod callers;
 mod choice;
 mod devices;
 mod engines;
-mod leftmost_stream;
-mod listed_stream;
 mod listings;
 mod readme;
 mod refusals;
 mod replace;
+mod rows;
 mod stream;
+mod stream_rows;
 mod walks;
 
 /// A pattern number, a start and an end.
@@ -37,7 +37,12 @@ fn same<T: PartialEq + Debug + Drop>(rt: &impl Abort, found: T, wanted: T) {
 }
 
 /// The same, and says what the search was made by.
-fn same_by<T: PartialEq + Debug + Drop, B: Debug>(rt: &impl Abort, found: T, wanted: T, by: &B) {
+pub(crate) fn same_by<T: PartialEq + Debug + Drop, B: Debug>(
+    rt: &impl Abort,
+    found: T,
+    wanted: T,
+    by: &B,
+) {
     assert_eq!(rt; found, wanted, "{by:?}");
 }
 
@@ -136,24 +141,6 @@ fn first_slice<'t>(searcher: &AhoCorasick, haystack: &'t [u8]) -> Option<&'t [u8
 }
 
 #[test]
-fn a_new_searcher_finds(rt: HostRuntime) -> Result<(), Fail> {
-    let searcher = AhoCorasick::new(rt.alloc(), &[b"apple", b"maple", b"Snapple"])?;
-    let haystack = b"Nobody likes maple in their apple flavored Snapple.";
-    let found = searcher.find(Input::new(haystack)).as_ref().map(triple_of);
-    same(&rt, found, Some((1, 13, 18)));
-    assert!(rt; searcher.is_match(Input::new(haystack)));
-    assert!(rt; !searcher.is_match(Input::new(b"Nobody")));
-    same(&rt, searcher.find(Input::new(b"Nobody")), None);
-    let mut walked = Vec::new(rt.alloc());
-    for found in searcher.find_iter(Input::new(haystack)) {
-        walked.push(triple_of(&found))?;
-    }
-    let wanted = [(1, 13, 18), (0, 28, 33), (2, 43, 50)];
-    same(&rt, walked.as_slice(), wanted.as_slice());
-    Ok(())
-}
-
-#[test]
 fn matches_can_be_used_as_indices(rt: HostRuntime) -> Result<(), Fail> {
     let searcher = AhoCorasick::new(rt.alloc(), &[b"apple", b"maple", b"Snapple"])?;
     let haystack = b"Nobody likes maple in their apple flavored Snapple.";
@@ -213,44 +200,45 @@ fn a_new_searcher_reports_its_settings(rt: HostRuntime) -> Result<(), Fail> {
     Ok(())
 }
 
+/// A builder can be used again after a build, and with other settings.
 #[test]
 fn each_setting_counts(rt: HostRuntime) -> Result<(), Fail> {
     let patterns: [&[u8]; 3] = [b"append", b"appendage", b"app"];
     let mut builder = AhoCorasick::builder();
     let usual = builder.build(rt.alloc(), &patterns)?;
-    let walked = walk_of(rt.alloc(), &usual, Input::new(b"appendage APP"))?;
-    same(&rt, walked.as_slice(), [(2, 0, 3)].as_slice());
-    builder
-        .match_kind(LeftmostFirst)
-        .ascii_case_insensitive(true);
+    builder.match_kind(LeftmostFirst).start_kind(Both);
     builder
         .kind(Some(AhoCorasickKind::NoncontiguousNFA))
-        .start_kind(Both);
+        .ascii_case_insensitive(true);
     let all = builder.build(rt.alloc(), &patterns)?;
     let kinds = (AhoCorasickKind::NoncontiguousNFA, LeftmostFirst, Both);
     same(&rt, kinds_of(&all), kinds);
-    let walked = walk_of(rt.alloc(), &all, Input::new(b"appendage APP"))?;
+    let input = Input::new(b"appendage APP");
+    let walked = walk_of(rt.alloc(), &usual, input)?;
+    same(&rt, walked.as_slice(), [(2, 0, 3)].as_slice());
+    let walked = walk_of(rt.alloc(), &all, input)?;
     same(&rt, walked.as_slice(), [(0, 0, 6), (2, 10, 13)].as_slice());
     Ok(())
 }
 
+/// A clone of a builder has the settings from then, and a clone of a searcher answers as it does.
 #[test]
 fn a_clone_answers_equally(rt: HostRuntime) -> Result<(), Fail> {
     let mut builder = AhoCorasickBuilder::new();
-    builder.match_kind(LeftmostLongest);
-    builder.start_kind(Both);
+    builder.match_kind(LeftmostLongest).start_kind(Both);
     builder.ascii_case_insensitive(true);
     let settings = builder.clone();
     builder.ascii_case_insensitive(false);
-    let searcher = settings.build(rt.alloc(), &[b"he", b"she", b"hers"])?;
-    let clone = searcher.clone()?;
-    drop(searcher);
+    let patterns: &[&[u8]] = &[b"he", b"she", b"hers"];
+    let clone = settings.build(rt.alloc(), patterns)?.clone()?;
     let walked = walk_of(rt.alloc(), &clone, Input::new(b"usHERS he"))?;
-    let wanted = [(1, 1, 4), (0, 7, 9)];
-    same(&rt, walked.as_slice(), wanted.as_slice());
+    same(&rt, walked.as_slice(), [(1, 1, 4), (0, 7, 9)].as_slice());
     let kinds = (AhoCorasickKind::ContiguousNFA, LeftmostLongest, Both);
-    same(&rt, kinds_of(&clone), kinds);
-    same(&rt, clone.patterns_len(), 3);
+    same(
+        &rt,
+        (kinds_of(&clone), lengths_of(&clone)),
+        (kinds, (2, 4, 3)),
+    );
     Ok(())
 }
 

@@ -1,74 +1,289 @@
+//! Each engine replaces as rows say, by lists and by closures.
 ghost use Rattle.std.specs.Prelude.{◌≡◌, ◌++◌, IfOk, List, ℕ, None, [], string_bytes};
 ghost use Rattle.ac_search.specs.Built.{exchanged, replace_refusal};
 ghost use Rattle.ac_search.specs.Replacement.{exchanged_from};
 
-use super::same;
+use super::engines::{ALL, builder_of, engines};
+use super::rows::WORDS;
+use super::{same, same_by};
 use crate::MatchKind::{LeftmostFirst, Standard};
+use crate::StartKind::{Both, Unanchored};
 use crate::laws::{closure_exchanges, text_closure_exchanges};
-use crate::{
-    AhoCorasick, AhoCorasickBuilder, Match, MatchError, MatchKind, ReplaceError, StartKind,
-};
+use crate::{AhoCorasick, AhoCorasickBuilder, Match, MatchError, MatchKind, ReplaceError};
 use std::alloc::{AllocError, Global};
+use std::process::Abort;
 use std::test::Fail;
 
-const WORDS: &[&[u8]] = &[b"append", b"appendage", b"app"];
+const SENTENCE: &str = "append the app to the appendage";
 
-pub(super) const SENTENCE: &str = "append the app to the appendage";
+const FOX: &[&[u8]] = &[b"fox", b"brown", b"quick"];
 
-const NUMBERS: &[&str] = &["0", "1", "2"];
-
-/// Patterns, a match kind, their texts, a haystack, and the same with the matches exchanged.
-type InBytes = (
+/// Patterns, a match kind, their texts as such and as bytes, a haystack, and the same with the matches exchanged: as bytes, and as
+/// a text, in which no character is cut.
+type Row = (
     &'static [&'static [u8]],
     MatchKind,
-    &'static [&'static [u8]],
-    &'static [u8],
-    &'static [u8],
-);
-
-pub(super) const IN_BYTES: &[InBytes] = &[
-    (
-        WORDS,
-        LeftmostFirst,
-        &[b"x", b"y", b"z"],
-        b"append the app to the appendage",
-        b"x the z to the xage",
-    ),
-    (&[b""], Standard, &[b"-"], b"ab", b"-a-b-"),
-    (&[b""], Standard, &[b"-"], b"\xC3\xA9", b"-\xC3-\xA9-"),
-    (&[b"\xC3"], Standard, &[b"x"], b"\xC3\xA9", b"x\xA9"),
-    (&[], Standard, &[], b"abc", b"abc"),
-];
-
-/// The same in a text.
-type InText = (
-    &'static [&'static [u8]],
-    MatchKind,
-    &'static [&'static str],
+    (&'static [&'static str], &'static [&'static [u8]]),
     &'static str,
+    &'static [u8],
     &'static str,
 );
 
-pub(super) const IN_TEXT: &[InText] = &[
+const ROWS: &[Row] = &[
     (
         WORDS,
         LeftmostFirst,
-        &["x", "y", "z"],
+        (&["x", "y", "z"], &[b"x", b"y", b"z"]),
         SENTENCE,
+        b"x the z to the xage",
         "x the z to the xage",
     ),
-    (&[b""], Standard, &["-"], "é", "-é-"),
-    (&[b"\xC3"], Standard, &["x"], "é", "é"),
+    (
+        FOX,
+        Standard,
+        (&["sloth", "grey", "slow"], &[b"sloth", b"grey", b"slow"]),
+        "The quick brown fox.",
+        b"The slow grey sloth.",
+        "The slow grey sloth.",
+    ),
+    (&[b""], Standard, (&["-"], &[b"-"]), "ab", b"-a-b-", "-a-b-"),
+    (
+        &[b""],
+        Standard,
+        (&["-"], &[b"-"]),
+        "é",
+        b"-\xC3-\xA9-",
+        "-é-",
+    ),
+    (&[b"\xC3"], Standard, (&["x"], &[b"x"]), "é", b"x\xA9", "é"),
     // the second pattern stands in what the first one cut, where a walk taken anew would find it
-    (&[b"\xA9 ", b" "], LeftmostFirst, &["x", "y"], "é é", "é é"),
-    (&[], Standard, &[], "abc", "abc"),
+    (
+        &[b"\xA9 ", b" "],
+        LeftmostFirst,
+        (&["x", "y"], &[b"x", b"y"]),
+        "é é",
+        b"\xC3x\xC3\xA9",
+        "é é",
+    ),
+    (&[], Standard, (&[], &[]), "abc", b"abc", "abc"),
 ];
 
-/// Builds a searcher of a match kind.
-fn searcher_of(rt: HostRuntime, patterns: &[&[u8]], kind: MatchKind) -> Result<AhoCorasick, Fail> {
-    let mut builder = AhoCorasickBuilder::new();
-    builder.match_kind(kind);
-    Ok(builder.build(rt.alloc(), patterns)?)
+/// Compares the replacement of bytes, by the call that tests the searcher and by the one that doesn't.
+fn compare_bytes(
+    rt: &impl Abort,
+    alloc: Global,
+    searcher: &AhoCorasick,
+    row: Row,
+) -> Result<(), Fail> {
+    let (_, _, (_, texts), haystack, wanted, _) = row;
+    assert!(rt; texts.len() == searcher.patterns_len());
+    let tried = searcher.try_replace_all_bytes(alloc, haystack.as_bytes(), texts)?;
+    let replaced = searcher.replace_all_bytes(alloc, haystack.as_bytes(), texts)?;
+    same_by(
+        rt,
+        (tried.as_slice(), replaced.as_slice()),
+        (wanted, wanted),
+        searcher,
+    );
+    Ok(())
+}
+
+/// Does the same with a text.
+fn compare_text(
+    rt: &impl Abort,
+    alloc: Global,
+    searcher: &AhoCorasick,
+    row: Row,
+) -> Result<(), Fail> {
+    let (_, _, (texts, _), haystack, _, wanted) = row;
+    assert!(rt; texts.len() == searcher.patterns_len());
+    let tried = searcher.try_replace_all(alloc, haystack, texts)?;
+    let replaced = searcher.replace_all(alloc, haystack, texts)?;
+    same_by(
+        rt,
+        (tried.as_str(), replaced.as_str()),
+        (wanted, wanted),
+        searcher,
+    );
+    Ok(())
+}
+
+#[test]
+fn each_engine_replaces_alike(rt: HostRuntime) -> Result<(), Fail> {
+    for engine in &engines(rt.alloc(), ALL)? {
+        for &row in ROWS {
+            for start_kind in [Unanchored, Both] {
+                let builder = builder_of(engine, row.1, start_kind);
+                let searcher = builder.build(rt.alloc(), row.0)?;
+                compare_bytes(&rt, rt.alloc(), &searcher, row)?;
+                compare_text(&rt, rt.alloc(), &searcher, row)?;
+            }
+        }
+    }
+    Ok(())
+}
+
+/// What a closure does at a match: it appends something, and goes on unless the pattern has this number; it takes away all that
+/// was appended and what was there before; it appends nothing; it appends nothing, and asks for no more to be exchanged.
+#[derive(Clone, Copy)]
+enum Act {
+    UpTo(usize),
+    Clear,
+    Drop,
+    Stop,
+}
+
+/// Does this in a text, to which it appends the number of a pattern.
+fn act_in_text(act: Act, number: usize, destination: &mut String) -> bool {
+    match act {
+        Act::UpTo(last) => {
+            let digit = ["0", "1", "2"].get(number);
+            destination.push_str(digit.unwrap_or(&"?")).is_ok() && number != last
+        }
+        Act::Clear => {
+            destination.clear();
+            true
+        }
+        Act::Drop => true,
+        Act::Stop => false,
+    }
+}
+
+/// Does this in bytes, to which it appends the match with a mark.
+fn act_in_bytes(act: Act, number: usize, slice: &[u8], destination: &mut Vec<u8>) -> bool {
+    match act {
+        Act::UpTo(last) => {
+            let appended = destination.extend_from_slice(slice).is_ok();
+            appended && destination.push(b'!').is_ok() && number != last
+        }
+        Act::Clear => {
+            destination.clear();
+            true
+        }
+        Act::Drop => true,
+        Act::Stop => false,
+    }
+}
+
+/// Patterns and a haystack, what stands in the destination before, what the closure does, and what stands there then: in a
+/// text and in bytes.
+type ClosureRow = (
+    &'static [&'static [u8]],
+    &'static str,
+    &'static str,
+    Act,
+    &'static str,
+    &'static [u8],
+);
+
+const CLOSURES: &[ClosureRow] = &[
+    (
+        WORDS,
+        SENTENCE,
+        "pre",
+        Act::UpTo(0),
+        "pre0 the app to the appendage",
+        b"preappend! the app to the appendage",
+    ),
+    (
+        WORDS,
+        SENTENCE,
+        "",
+        Act::UpTo(2),
+        "0 the 2 to the appendage",
+        b"append! the app! to the appendage",
+    ),
+    (
+        WORDS,
+        SENTENCE,
+        "pre",
+        Act::UpTo(2),
+        "pre0 the 2 to the appendage",
+        b"preappend! the app! to the appendage",
+    ),
+    (
+        WORDS,
+        SENTENCE,
+        "pre",
+        Act::UpTo(3),
+        "pre0 the 2 to the 0age",
+        b"preappend! the app! to the append!age",
+    ),
+    (WORDS, SENTENCE, "keep", Act::Clear, "age", b"age"),
+    (
+        WORDS,
+        SENTENCE,
+        "",
+        Act::Stop,
+        " the app to the appendage",
+        b" the app to the appendage",
+    ),
+    (&[b"\xC3"], "é", "", Act::Drop, "é", b"\xA9"),
+];
+
+/// Compares what a closure leaves in a text, by the call that tests the searcher and by the one that doesn't.
+fn compare_closure_in_text(
+    rt: &impl Abort,
+    alloc: Global,
+    searcher: &AhoCorasick,
+    row: ClosureRow,
+) -> Result<(), Fail> {
+    let (_, haystack, before, act, wanted, _) = row;
+    let mut tried = String::from_str(alloc, before)?;
+    searcher.try_replace_all_with(haystack, &mut tried, |m, _, destination| {
+        act_in_text(act, m.pattern().as_usize(), destination)
+    })?;
+    let mut text = String::from_str(alloc, before)?;
+    searcher.replace_all_with(haystack, &mut text, |m, _, destination| {
+        act_in_text(act, m.pattern().as_usize(), destination)
+    })?;
+    same_by(
+        rt,
+        (tried.as_str(), text.as_str()),
+        (wanted, wanted),
+        searcher,
+    );
+    Ok(())
+}
+
+/// Does the same in bytes.
+fn compare_closure_in_bytes(
+    rt: &impl Abort,
+    alloc: Global,
+    searcher: &AhoCorasick,
+    row: ClosureRow,
+) -> Result<(), Fail> {
+    let (_, haystack, before, act, _, wanted) = row;
+    let mut tried = before.as_bytes().to_vec(alloc)?;
+    searcher.try_replace_all_with_bytes(
+        haystack.as_bytes(),
+        &mut tried,
+        |m, slice, destination| { act_in_bytes(act, m.pattern().as_usize(), slice, destination) },
+    )?;
+    let mut bytes = before.as_bytes().to_vec(alloc)?;
+    searcher.replace_all_with_bytes(haystack.as_bytes(), &mut bytes, |m, slice, destination| {
+        act_in_bytes(act, m.pattern().as_usize(), slice, destination)
+    })?;
+    same_by(
+        rt,
+        (tried.as_slice(), bytes.as_slice()),
+        (wanted, wanted),
+        searcher,
+    );
+    Ok(())
+}
+
+#[test]
+fn each_engine_calls_closures_alike(rt: HostRuntime) -> Result<(), Fail> {
+    for engine in &engines(rt.alloc(), ALL)? {
+        let builder = builder_of(engine, LeftmostFirst, Unanchored);
+        for &row in CLOSURES {
+            let searcher = builder.build(rt.alloc(), row.0)?;
+            compare_closure_in_text(&rt, rt.alloc(), &searcher, row)?;
+            compare_closure_in_bytes(&rt, rt.alloc(), &searcher, row)?;
+        }
+    }
+    Ok(())
 }
 
 /// Appends the haystack without its matches.
@@ -97,116 +312,6 @@ fn mark(searcher: &AhoCorasick, text: &str, destination: &mut String) -> Result<
 }
 
 #[test]
-fn lists_exchange_bytes(rt: HostRuntime) -> Result<(), Fail> {
-    let searcher = AhoCorasick::new(rt.alloc(), &[b"fox", b"brown", b"quick"])?;
-    let replaced = searcher.replace_all_bytes(
-        rt.alloc(),
-        b"The quick brown fox.",
-        &[b"sloth", b"grey", b"slow"],
-    )?;
-    same(&rt, replaced.as_slice(), b"The slow grey sloth.".as_slice());
-    Ok(())
-}
-
-#[test]
-fn lists_exchange_whole_characters(rt: HostRuntime) -> Result<(), Fail> {
-    let searcher = AhoCorasick::new(rt.alloc(), &[b"fox", b"brown", b"quick"])?;
-    let replaced = searcher.replace_all(
-        rt.alloc(),
-        "The quick brown fox.",
-        &["sloth", "grey", "slow"],
-    )?;
-    same(&rt, replaced.as_str(), "The slow grey sloth.");
-    Ok(())
-}
-
-/// Appends nothing, so that a match is dropped.
-pub(super) fn drop_text(_: &Match, _: &str, _: &mut String) -> bool {
-    true
-}
-
-/// Appends nothing, and asks for no more to be exchanged.
-pub(super) fn stop_text(_: &Match, _: &str, _: &mut String) -> bool {
-    false
-}
-
-/// Does the same in bytes.
-pub(super) fn stop_bytes(_: &Match, _: &[u8], _: &mut Vec<u8>) -> bool {
-    false
-}
-
-/// Takes away all that was appended, and what was there before.
-pub(super) fn clear_text(_: &Match, _: &str, destination: &mut String) -> bool {
-    destination.clear();
-    true
-}
-
-/// Does the same in bytes.
-pub(super) fn clear_bytes(_: &Match, _: &[u8], destination: &mut Vec<u8>) -> bool {
-    destination.clear();
-    true
-}
-
-/// Appends the number of a pattern.
-fn push_number(found: &Match, destination: &mut String) -> bool {
-    match NUMBERS.get(found.pattern().as_usize()) {
-        Some(number) => destination.push_str(number).is_ok(),
-        None => false,
-    }
-}
-
-/// Returns the sentence after this beginning, with each match exchanged for the number of its pattern, up to one of this
-/// pattern: by the call that tests the searcher, and by the one that doesn't.
-pub(super) fn numbered_up_to(
-    alloc: Global,
-    searcher: &AhoCorasick,
-    beginning: &str,
-    last: usize,
-) -> Result<(String, String), Fail> {
-    let mut tried = String::from_str(alloc, beginning)?;
-    searcher.try_replace_all_with(SENTENCE, &mut tried, |found, _, destination| {
-        push_number(found, destination) && found.pattern().as_usize() != last
-    })?;
-    let mut text = String::from_str(alloc, beginning)?;
-    searcher.replace_all_with(SENTENCE, &mut text, |found, _, destination| {
-        push_number(found, destination) && found.pattern().as_usize() != last
-    })?;
-    Ok((tried, text))
-}
-
-/// Appends a match with a mark.
-fn push_marked(slice: &[u8], destination: &mut Vec<u8>) -> bool {
-    destination.extend_from_slice(slice).is_ok() && destination.push(b'!').is_ok()
-}
-
-/// Returns the bytes of the sentence with a mark after each match, up to one of this pattern, by the same two calls.
-pub(super) fn marked_up_to(
-    alloc: Global,
-    searcher: &AhoCorasick,
-    last: usize,
-) -> Result<(Vec<u8>, Vec<u8>), Fail> {
-    let sentence = SENTENCE.as_bytes();
-    let mut tried = Vec::new(alloc);
-    searcher.try_replace_all_with_bytes(sentence, &mut tried, |found, slice, destination| {
-        push_marked(slice, destination) && found.pattern().as_usize() != last
-    })?;
-    let mut bytes = Vec::new(alloc);
-    searcher.replace_all_with_bytes(sentence, &mut bytes, |found, slice, destination| {
-        push_marked(slice, destination) && found.pattern().as_usize() != last
-    })?;
-    Ok((tried, bytes))
-}
-
-#[test]
-fn closures_exchange_no_cut_characters(rt: HostRuntime) -> Result<(), Fail> {
-    let cut = searcher_of(rt, &[b"\xC3"], Standard)?;
-    let mut kept = String::new(rt.alloc());
-    cut.try_replace_all_with("é", &mut kept, drop_text)?;
-    same(&rt, kept.as_str(), "é");
-    Ok(())
-}
-
-#[test]
 fn a_closure_needs_its_own_contract_alone(rt: HostRuntime) -> Result<(), Fail> {
     let searcher = AhoCorasick::new(rt.alloc(), &[b"app"])?;
     let mut removed = Vec::new(rt.alloc());
@@ -219,27 +324,30 @@ fn a_closure_needs_its_own_contract_alone(rt: HostRuntime) -> Result<(), Fail> {
     Ok(())
 }
 
-#[test]
-fn a_refused_replacement_changes_nothing(rt: HostRuntime) -> Result<(), Fail> {
-    let mut builder = AhoCorasickBuilder::new();
-    builder.start_kind(StartKind::Anchored);
-    let searcher = builder.build(rt.alloc(), &[b"a"])?;
-    let refused = ReplaceError::Match(MatchError::InvalidInputUnanchored);
+/// Compares what replacements answer with a refusal, and what they leave in the destination.
+pub(super) fn compare_refused(
+    rt: &impl Abort,
+    alloc: Global,
+    searcher: &AhoCorasick,
+) -> Result<(), Fail> {
+    let wanted = Some(ReplaceError::Match(MatchError::InvalidInputUnanchored));
+    assert!(rt; searcher.patterns_len() == 1);
+    let text = searcher.try_replace_all(alloc, "a", &["x"]).err();
+    let bytes = searcher.try_replace_all_bytes(alloc, b"a", &[b"x"]).err();
+    same(rt, (text, bytes), (wanted, wanted));
+    let mut text = String::from_str(alloc, "pre")?;
+    let by_text = searcher.try_replace_all_with("a", &mut text, |_, _, destination| {
+        act_in_text(Act::Clear, 0, destination)
+    });
+    let mut bytes = b"pre".to_vec(alloc)?;
+    let by_bytes = searcher.try_replace_all_with_bytes(b"a", &mut bytes, |_, _, destination| {
+        act_in_bytes(Act::Clear, 0, b"", destination)
+    });
+    same(rt, (by_text.err(), by_bytes.err()), (wanted, wanted));
     same(
-        &rt,
-        searcher.try_replace_all(rt.alloc(), "a", &["x"]).err(),
-        Some(refused),
+        rt,
+        (text.as_str(), bytes.as_slice()),
+        ("pre", b"pre".as_slice()),
     );
-    let bytes = searcher.try_replace_all_bytes(rt.alloc(), b"a", &[b"x"]);
-    same(&rt, bytes.err(), Some(refused));
-    let mut text = String::from_str(rt.alloc(), "pre")?;
-    let answer = searcher.try_replace_all_with("a", &mut text, clear_text);
-    same(&rt, answer, Err(refused));
-    same(&rt, text.as_str(), "pre");
-    let mut bytes = Vec::new(rt.alloc());
-    bytes.extend_from_slice(b"pre")?;
-    let answer = searcher.try_replace_all_with_bytes(b"a", &mut bytes, clear_bytes);
-    same(&rt, answer, Err(refused));
-    same(&rt, bytes.as_slice(), b"pre".as_slice());
     Ok(())
 }

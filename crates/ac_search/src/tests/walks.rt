@@ -1,202 +1,141 @@
-//! Each engine walks as rows say.
-use super::engines::{EACH, PREFIXES, SENTENCE, WORDS, builder_of, engines};
-use super::{Triple, same_by, triple_of};
-use crate::MatchKind::{LeftmostFirst, LeftmostLongest, Standard};
-use crate::StartKind::{Both, Unanchored};
-use crate::{AhoCorasick, Anchored, Input, MatchKind, StartKind};
-use std::alloc::Global;
+//! Each engine finds and walks as rows say.
+use super::engines::{ALL, EACH, Engine, builder_of, engines};
+use super::rows::{OTHERS, Row, Rows, Search, WHOLE};
+use super::{Triple, lengths_of, same_by, triple_of, triples_of, walk_of};
+use crate::StartKind::Unanchored;
+use crate::{AhoCorasick, AhoCorasickBuilder, Input};
+use std::alloc::{AllocError, Global};
 use std::process::Abort;
 use std::test::Fail;
 
-const STANDARD: &[MatchKind] = &[Standard];
+/// A span of a haystack, or none for all of it.
+type Span = Option<(usize, usize)>;
 
-const FIRST: &[MatchKind] = &[LeftmostFirst];
-
-const LONGEST: &[MatchKind] = &[LeftmostLongest];
-
-const LEFTMOST: &[MatchKind] = &[LeftmostFirst, LeftmostLongest];
-
-/// Match kinds, patterns, a haystack, and its walk under each of the kinds.
-type Row = (
-    &'static [MatchKind],
-    &'static [&'static [u8]],
-    &'static [u8],
-    &'static [Triple],
-);
-
-const FRUIT: &[&[u8]] = &[b"apple", b"maple", b"Snapple"];
-
-pub(super) const LIKES: &[u8] = b"Nobody likes maple in their apple flavored Snapple.";
-
-/// A long pattern that fails at its last byte.
-const FAILS_LATE: &[&[u8]] = &[b"a", b"abcdefghi", b"hz", b"abcdefgh"];
-
-const FAILS_LATER: &[&[u8]] = &[b"b", b"abcdefghi", b"hz", b"abcdefgh"];
-
-const NAMES: &[&[u8]] = &[b"Samwise", b"Sam"];
-
-const FOO: &[&[u8]] = &[b"foo", b"bar", b"quux"];
-
-const WALKS: [Row; 27] = [
-    (EACH, FRUIT, LIKES, &[(1, 13, 18), (0, 28, 33), (2, 43, 50)]),
-    (STANDARD, PREFIXES, b"abcd", &[(0, 1, 2)]),
-    (FIRST, PREFIXES, b"abcd", &[(1, 0, 3)]),
-    (LONGEST, PREFIXES, b"abcd", &[(2, 0, 4)]),
-    (
-        STANDARD,
-        WORDS,
-        SENTENCE,
-        &[(2, 0, 3), (2, 11, 14), (2, 22, 25)],
-    ),
-    (
-        FIRST,
-        WORDS,
-        SENTENCE,
-        &[(0, 0, 6), (2, 11, 14), (0, 22, 28)],
-    ),
-    (
-        LONGEST,
-        WORDS,
-        SENTENCE,
-        &[(0, 0, 6), (2, 11, 14), (1, 22, 31)],
-    ),
-    (STANDARD, &[b"", b"a"], b"a", &[(0, 0, 0), (0, 1, 1)]),
-    (LONGEST, &[b"", b"a"], b"ba", &[(0, 0, 0), (1, 1, 2)]),
-    (FIRST, FAILS_LATE, b"abcdefghz", &[(0, 0, 1), (2, 7, 9)]),
-    (LONGEST, FAILS_LATE, b"abcdefghz", &[(3, 0, 8)]),
-    (LEFTMOST, FAILS_LATER, b"abcdefghz", &[(3, 0, 8)]),
-    (
-        FIRST,
-        &[b"abc", b"bd", b""],
-        b"abd",
-        &[(2, 0, 0), (1, 1, 3)],
-    ),
-    (EACH, &[b"ab", b"ab"], b"abab", &[(0, 0, 2), (0, 2, 4)]),
-    (FIRST, PREFIXES, b"foo abcd", &[(1, 4, 7)]),
-    (EACH, PREFIXES, b"xb", &[(0, 1, 2)]),
-    (STANDARD, NAMES, b"Samwise", &[(1, 0, 3)]),
-    (FIRST, NAMES, b"Samwise", &[(0, 0, 7)]),
-    (EACH, &[b"aba"], b"ababa", &[(0, 0, 3)]),
-    (
-        STANDARD,
-        &[b"a", b"aa"],
-        b"aaa",
-        &[(0, 0, 1), (0, 1, 2), (0, 2, 3)],
-    ),
-    (STANDARD, &[b"bc", b"abcd"], b"abcd", &[(0, 1, 3)]),
-    (LEFTMOST, &[b"abcd", b"bc"], b"abce", &[(1, 1, 3)]),
-    (LEFTMOST, &[b"abcd", b"bc"], b"abcd", &[(0, 0, 4)]),
-    (
-        EACH,
-        &[b"he", b"she", b"his", b"hers"],
-        b"ushers",
-        &[(1, 1, 4)],
-    ),
-    (EACH, &[b""], b"ab", &[(0, 0, 0), (0, 1, 1), (0, 2, 2)]),
-    (EACH, &[b""], b"", &[(0, 0, 0)]),
-    (EACH, &[], b"abc", &[]),
-];
-
-/// The same with `earliest`.
-const EARLIEST_WALKS: [Row; 3] = [
-    (EACH, PREFIXES, b"abcd", &[(0, 1, 2)]),
-    (EACH, PREFIXES, b"foo abcd", &[(0, 5, 6)]),
-    (EACH, PREFIXES, b"abcdabcd", &[(0, 1, 2), (0, 5, 6)]),
-];
-
-/// The same of anchored walks.
-const ANCHORED_WALKS: [Row; 9] = [
-    (EACH, &[b"abc", b"bd"], b"abd", &[]),
-    (LONGEST, &[b"", b"a"], b"ba", &[(0, 0, 0), (1, 1, 2)]),
-    (FIRST, PREFIXES, b"foo abcd", &[]),
-    (&[Standard, LeftmostFirst], PREFIXES, b"abcd", &[(1, 0, 3)]),
-    (LONGEST, PREFIXES, b"abcd", &[(2, 0, 4)]),
-    (EACH, PREFIXES, b"abd", &[]),
-    (EACH, PREFIXES, b"xb", &[]),
-    (
-        FIRST,
-        FOO,
-        b"fooquuxbar foo",
-        &[(0, 0, 3), (2, 3, 7), (1, 7, 10)],
-    ),
-    (EACH, &[b""], b"", &[(0, 0, 0)]),
-];
-
-/// The same of anchored walks with `earliest`.
-const ANCHORED_EARLIEST_WALKS: [Row; 1] = [(EACH, PREFIXES, b"abcd", &[(1, 0, 3)])];
-
-/// What a searcher answers.
-#[derive(Drop)]
-struct Answers {
-    walk: Vec<Triple>,
-    find: Option<Triple>,
-    is_match: bool,
-}
-
-/// Returns what a searcher answers for an input that it supports.
-fn answers_of(alloc: Global, searcher: &AhoCorasick, input: Input<'_>) -> Result<Answers, Fail> {
+/// Returns the walk of a searcher in an input that it supports, its find, and whether there is a match.
+fn answers_of(
+    alloc: Global,
+    searcher: &AhoCorasick,
+    input: Input<'_>,
+) -> Result<(Vec<Triple>, Option<Triple>, bool), Fail> {
     searcher.try_find(input)?;
-    let mut walk = Vec::new(alloc);
-    for found in searcher.find_iter(input) {
-        walk.push(triple_of(&found))?;
+    let walk = triples_of(alloc, searcher.find_iter(input))?;
+    let found = searcher.find(input).as_ref().map(triple_of);
+    Ok((walk, found, searcher.is_match(input)))
+}
+
+/// Returns the input of a search in a span of a haystack.
+fn input_of<'h>(rt: &impl Abort, search: &Search, span: Span, haystack: &'h [u8]) -> Input<'h> {
+    let (start, end) = span.unwrap_or((0, haystack.len()));
+    assert!(rt; end <= haystack.len() && start.saturating_sub(end) <= 1);
+    Input::new(haystack)
+        .anchored(search.anchored)
+        .earliest(search.earliest)
+        .range(start..end)
+}
+
+/// Compares what a clone of the searcher of a builder answers with what a row says.
+fn compare_row(
+    rt: &impl Abort,
+    alloc: Global,
+    builder: &AhoCorasickBuilder,
+    search: &Search,
+    span: Span,
+    row: Row,
+) -> Result<(), Fail> {
+    let (_, patterns, haystack, walk) = row;
+    let searcher = builder.build(alloc, patterns)?.clone()?;
+    let input = input_of(rt, search, span, haystack);
+    let (walked, found, occurs) = answers_of(alloc, &searcher, input)?;
+    let first = walk.first().copied();
+    same_by(
+        rt,
+        (walked.as_slice(), found, occurs),
+        (walk, first, first.is_some()),
+        builder,
+    );
+    if patterns.is_empty() {
+        same_by(rt, lengths_of(&searcher), (usize::MAX, 0, 0), builder);
     }
-    Ok(Answers {
-        walk,
-        find: searcher.find(input).as_ref().map(triple_of),
-        is_match: searcher.is_match(input),
-    })
+    Ok(())
 }
 
-/// How rows are searched: by searchers with either start kind, and with these options.
-#[derive(Clone, Copy)]
-struct Search {
-    start_kinds: [StartKind; 2],
-    anchored: Anchored,
-    earliest: bool,
-}
-
-/// Compares what clones of searchers answer, over each engine, with what rows say.
-fn compare_rows(rt: &impl Abort, alloc: Global, rows: &[Row], search: &Search) -> Result<(), Fail> {
-    for engine in &engines(alloc)? {
-        for start_kind in search.start_kinds {
-            for &(kinds, patterns, haystack, walk) in rows {
-                for &kind in kinds {
-                    let builder = builder_of(engine, kind, start_kind);
-                    let searcher = builder.build(alloc, patterns)?.clone()?;
-                    let input = Input::new(haystack).anchored(search.anchored);
-                    let answers = answers_of(alloc, &searcher, input.earliest(search.earliest))?;
-                    let first = walk.first().copied();
-                    same_by(rt, answers.walk.as_slice(), walk, &builder);
-                    same_by(rt, answers.find, first, &builder);
-                    same_by(rt, answers.is_match, first.is_some(), &builder);
-                }
+/// Compares what searchers over an engine answer, by each start kind and match kind, with what rows say.
+fn compare_rows(
+    rt: &impl Abort,
+    alloc: Global,
+    engine: &Engine,
+    (search, span, rows): &Rows,
+) -> Result<(), Fail> {
+    for row in *rows {
+        for &start_kind in search.start_kinds {
+            for &kind in row.0 {
+                let mut builder = builder_of(engine, kind, start_kind);
+                builder.ascii_case_insensitive(search.ignores_case);
+                compare_row(rt, alloc, &builder, search, *span, *row)?;
             }
         }
     }
     Ok(())
 }
 
-/// Returns that rows are searched from this anchoring, by searchers that support it alone or both.
-fn search_by(start_kind: StartKind, anchored: Anchored, earliest: bool) -> Search {
-    Search {
-        start_kinds: [start_kind, Both],
-        anchored,
-        earliest,
+/// Compares what searchers over each engine answer with what rows say.
+fn compare_engines(rt: &impl Abort, alloc: Global, rows: &[Rows]) -> Result<(), Fail> {
+    for engine in &engines(alloc, ALL)? {
+        for rows in rows {
+            compare_rows(rt, alloc, engine, rows)?;
+        }
     }
+    Ok(())
 }
 
 #[test]
 fn each_engine_walks_alike(rt: HostRuntime) -> Result<(), Fail> {
-    let search = search_by(Unanchored, Anchored::No, false);
-    compare_rows(&rt, rt.alloc(), &WALKS, &search)?;
-    let search = search_by(Unanchored, Anchored::No, true);
-    compare_rows(&rt, rt.alloc(), &EARLIEST_WALKS, &search)
+    compare_engines(&rt, rt.alloc(), WHOLE)
+}
+
+/// Where case is ignored, from the start alone, and in spans.
+#[test]
+fn each_engine_walks_alike_by_other_searches(rt: HostRuntime) -> Result<(), Fail> {
+    compare_engines(&rt, rt.alloc(), OTHERS)
+}
+
+/// Returns the byte `a` before each byte from 80 on.
+fn pairs(alloc: Global) -> Result<Vec<u8>, AllocError> {
+    let mut pairs = Vec::new(alloc);
+    for byte in 0x80..=0xFFu8 {
+        pairs.extend_from_slice(&[b'a', byte])?;
+    }
+    Ok(pairs)
+}
+
+/// Returns matches of so many pairs of bytes, one after the other.
+fn places(alloc: Global, count: usize) -> Result<Vec<Triple>, AllocError> {
+    let mut places = Vec::new(alloc);
+    for number in 0..count {
+        let start = number.saturating_mul(2);
+        places.push((number, start, start.saturating_add(2)))?;
+    }
+    Ok(places)
+}
+
+/// Compares the walk of each engine over many pairs of bytes, where so many are patterns.
+fn compare_pairs(rt: &impl Abort, alloc: Global, count: usize) -> Result<(), Fail> {
+    let haystack = pairs(alloc)?;
+    let wanted = places(alloc, count)?;
+    let patterns: Vec<&[u8]> = haystack.chunks(2).take(count).collect(alloc)?;
+    for engine in &engines(alloc, ALL)? {
+        for &kind in EACH {
+            let builder = builder_of(engine, kind, Unanchored);
+            let searcher = builder.build(alloc, &patterns)?;
+            let walked = walk_of(alloc, &searcher, Input::new(&haystack))?;
+            same_by(rt, walked.as_slice(), wanted.as_slice(), &builder);
+        }
+    }
+    Ok(())
 }
 
 #[test]
-fn each_engine_walks_alike_from_its_start(rt: HostRuntime) -> Result<(), Fail> {
-    let search = search_by(StartKind::Anchored, Anchored::Yes, false);
-    compare_rows(&rt, rt.alloc(), &ANCHORED_WALKS, &search)?;
-    let search = search_by(StartKind::Anchored, Anchored::Yes, true);
-    compare_rows(&rt, rt.alloc(), &ANCHORED_EARLIEST_WALKS, &search)
+fn each_engine_distinguishes_many_bytes(rt: HostRuntime) -> Result<(), Fail> {
+    compare_pairs(&rt, rt.alloc(), 127)?;
+    compare_pairs(&rt, rt.alloc(), 128)
 }

@@ -1,8 +1,10 @@
 use super::super::{AhoCorasick, AhoCorasickBuilder};
 use super::{AhoCorasickKind, Engine};
+use crate::tests::same_by;
 use ac_automaton::automaton::Automaton;
 use ac_util::patterns::Patterns;
 use ac_util::prefilter::Prefilter;
+use std::alloc::Global;
 use std::test::Fail;
 
 const KINDS: [Option<AhoCorasickKind>; 4] = [
@@ -30,6 +32,18 @@ fn byte_count(searcher: &AhoCorasick) -> Option<usize> {
     prefilter.map(|p| p.byte_count())
 }
 
+/// Returns the same of a searcher and of a clone of it, from a builder with one more setting.
+fn byte_counts(
+    alloc: Global,
+    builder: &mut AhoCorasickBuilder,
+    prefilter: bool,
+    patterns: &[&[u8]],
+) -> Result<[Option<usize>; 2], Fail> {
+    builder.prefilter(prefilter);
+    let searcher = builder.build(alloc, patterns)?;
+    Ok([byte_count(&searcher), byte_count(&searcher.clone()?)])
+}
+
 /// Each engine has the prefilter of the patterns and their case, and none where the setting is off.
 #[test]
 fn engines_have_the_prefilter_that_was_set(rt: HostRuntime) -> Result<(), Fail> {
@@ -41,15 +55,10 @@ fn engines_have_the_prefilter_that_was_set(rt: HostRuntime) -> Result<(), Fail> 
             let mut builder = AhoCorasickBuilder::new();
             builder.kind(kind).ascii_case_insensitive(ignores_case);
             let usual = builder.build(rt.alloc(), patterns)?;
-            assert_eq!(rt; byte_count(&usual), wanted, "{kind:?}");
-            builder.prefilter(false);
-            let off = builder.build(rt.alloc(), patterns)?;
-            assert_eq!(rt; byte_count(&off), None, "{kind:?}");
-            assert_eq!(rt; byte_count(&off.clone()?), None, "{kind:?}");
-            builder.prefilter(true);
-            let on = builder.build(rt.alloc(), patterns)?;
-            assert_eq!(rt; byte_count(&on), wanted, "{kind:?}");
-            assert_eq!(rt; byte_count(&on.clone()?), wanted, "{kind:?}");
+            let off = byte_counts(rt.alloc(), &mut builder, false, patterns)?;
+            let on = byte_counts(rt.alloc(), &mut builder, true, patterns)?;
+            let found = (byte_count(&usual), off, on);
+            same_by(&rt, found, (wanted, [None; 2], [wanted; 2]), &kind);
         }
     }
     Ok(())
