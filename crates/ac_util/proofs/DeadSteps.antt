@@ -95,6 +95,6 @@ module _ (kind : MatchKind) (patterns : List (List ℕ)) (leftmost : is_leftmost
       by true is later = absurd (let own = step-own kind patterns x u b is in cc)
       by false is later =
           let looks-are : looks-of (suc n) (Some (x ∷ u)) ≡ suc (looks-of n (failure kind patterns (x ∷ u))) =
-          ap (λ (t : Bool). elim t [ | true ↦ 1 | false ↦ suc (looks-of n (failure kind patterns (x ∷ u))) ]) is in
+          ap (λ (t : Bool). elim t [ true ↦ 1 | false ↦ suc (looks-of n (failure kind patterns (x ∷ u))) ]) is in
           let paid = on (stops kind patterns (x ∷ u)) refl (reached kind patterns No u) refl is later in
           omega arith
