@@ -4,7 +4,7 @@ use Rattle.std.specs.Borrow.{Bor, MutBor}
 use Rattle.std.specs.Fn.{Mut}
 use Rattle.std.specs.declared.io.Error.{Error}
 use Rattle.std.proofs.lemmas.Grind.{common_steps}
-use Rattle.ac_automaton.specs.Util.{AnswersStream, answer_of_result, Built, Calls, FailsToReplaceWith, MatchAnswer, MatchError, Occurrence, Reading, ReplacementSteps, ReplacesStreamWith, Replacing, settled, stream_result, StreamError, WritesPiece, Writing}
+use Rattle.ac_automaton.specs.Util.{AnswersStream, answer_of_result, Built, Calls, FailsToReplaceWith, MatchAnswer, MatchError, Occurrence, Reading, ReplacementSteps, ReplacesStreamWith, Replacing, stream_result, StreamError, WritesPiece, Writing}
 use Rattle.ac_util.specs.declared.error.StreamError.TheVariants.{Io}
 use Rattle.ac_automaton.proofs.Gathering.{piece-written}
 use Rattle.ac_automaton.specs.Prelude.{answer_of_exchange, ByClosure, CallsBy, FailsBy, Passing, PassesPiece, ReplacesBy, Steps}

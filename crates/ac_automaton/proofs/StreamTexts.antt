@@ -1,5 +1,5 @@
 -- The text that the replacement of a stream by a list of texts leaves.
-use Rattle.std.proofs.Common.{◌≡◌, ℕ, ◌-◌, Bool, List, [], ◌∷◌, ◌++◌, length, take, drop, inl, inr, refl, sym, subst, ◌∙◌, arith, Option, Some, None, Result, Ok, Err, slice_index_or, slice_range, rules}
+use Rattle.std.proofs.Common.{◌≡◌, ℕ, Bool, List, [], ◌∷◌, ◌++◌, length, take, drop, inl, inr, refl, sym, subst, ◌∙◌, arith, Option, Some, None, Result, Ok, Err, slice_index_or, slice_range, rules}
 use Rattle.std.proofs.lemmas.List.{take_all}
 use Rattle.std.proofs.lemmas.Grind.{common_steps}
 use Rattle.ac_automaton.specs.Util.{Built, error_of, FailsToReplace, MatchAnswer, Occurrence, Reading, replaced, replaced_from, ReplacesStream, Replacing, stream_result, StreamError, WriteError, WritesUntilFailure, Writing}

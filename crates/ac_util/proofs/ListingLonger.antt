@@ -1,6 +1,6 @@
 -- A span that is one place longer: its listing goes on with the matches of the node that an automaton reaches
 -- at its end.
-use Rattle.std.proofs.Common.{◌≡◌, ℕ, zero, suc, ◌+◌, ◌-◌, ◌<◌, ◌≤◌, List, [], ◌∷◌, ◌++◌, map, length, inl, inr, refl, ap, sym, subst, arith, Some, rules}
+use Rattle.std.proofs.Common.{◌≡◌, ℕ, zero, suc, ◌+◌, ◌<◌, ◌≤◌, List, [], ◌∷◌, ◌++◌, map, length, inl, inr, refl, ap, sym, subst, arith, Some, rules}
 use Rattle.std.proofs.lemmas.Bool.{cases_lt}
 use Rattle.std.proofs.lemmas.Grind.{common_steps}
 use Rattle.ac_util.specs.Prelude.{all, ending, equal_to, found_at_end, IsBefore, matches, No, Occurrence, Occurs, one_longer, outward, pattern_of, plain_patterns, Search, Standard, text, Yes}
