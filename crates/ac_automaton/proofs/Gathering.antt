@@ -4,12 +4,9 @@ use Rattle.std.proofs.Math.Seq.{take-append-add}
 use Rattle.std.proofs.lemmas.Grind.{common_steps}
 use Rattle.ac_automaton.specs.Util.{error_of, Replacing, StreamError, WriteError, WritesAll, WritesUntilFailure, Writing}
 use Rattle.ac_automaton.specs.Prelude.{Gathers, Passing, PassesPiece}
+use Rattle.ac_util.proofs.Devices.{writes-join}
 
--- some bytes were written, and then some more
-writes-join : (a b c : Writing) (xs ys : List ℕ) → WritesAll a b xs → WritesAll b c ys → WritesAll a c (xs ++ ys)
-writes-join a b c xs ys first second = grind (arith, common_steps)
-
--- or a beginning of them
+-- some bytes were written, and then a beginning of more
 fails-join : (a b c : Writing) (xs ys : List ℕ) (e : WriteError) → WritesAll a b xs → WritesUntilFailure b c ys e
     → WritesUntilFailure a c (xs ++ ys) e
 fails-join a b c xs ys e first second =

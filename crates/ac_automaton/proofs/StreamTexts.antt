@@ -4,8 +4,7 @@ use Rattle.std.proofs.lemmas.List.{take_all}
 use Rattle.std.proofs.lemmas.Grind.{common_steps}
 use Rattle.ac_automaton.specs.Util.{Built, error_of, FailsToReplace, MatchAnswer, Occurrence, Reading, replaced, replaced_from, ReplacesStream, Replacing, stream_result, StreamError, WriteError, WritesUntilFailure, Writing}
 use Rattle.ac_automaton.specs.Prelude.{answer_of_exchange, error_in, FailsBy, Passing, PassesPiece, PassesText, ReplacesBy, Steps}
-use Rattle.ac_automaton.proofs.Gathering.{piece-begun, piece-join}
-use Rattle.ac_util.proofs.ReplacedCuts.{all-apart, apart-by, AreApart, cut-of, last-inside}
+use Rattle.ac_automaton.proofs.Gathering.{piece-begun, piece-failed, piece-join}
 
 -- an exchange by texts, which stay as they are
 module _ {E D : Type 0} (passing : Passing E D) (texts : E → List (List ℕ))
@@ -65,15 +64,6 @@ module _ {E D : Type 0} (passing : Passing E D) (texts : E → List (List ℕ))
 
   module _ (ends : Bool) (built : Built) (reader new_reader : Reading) (list : List (List ℕ)) (s t : Replacing E D)
       (same : texts s.closure ≡ list) (begins : passing.held s.closure ≡ []) where
-    abbrev old : Writing
-    old = passing.told s.destination
-
-    abbrev new : Writing
-    new = passing.told t.destination
-
-    abbrev whole-of : List ℕ → List ℕ
-    whole-of bytes = replaced bytes list (stream_result built bytes)
-
     pub replaces-by : ReplacesBy passing exchanges ends built reader new_reader s t
         → ReplacesStream built list (passing.told s.destination) (passing.told t.destination) ends reader new_reader
     replaces-by (bytes, reads, clear, steps, small) =
@@ -84,18 +74,6 @@ module _ {E D : Type 0} (passing : Passing E D) (texts : E → List (List ℕ))
           text-steps (take (length bytes) bytes) 0 (stream_result built bytes) s t None list same steps,
         )
 
-    -- a beginning of the replaced text as far as a place is one of all of it
-    begun-text : (bytes : List ℕ) (given place : ℕ) (e : StreamError) → AreApart built bytes given place
-        → Steps passing exchanges (take place bytes) 0 (take given (stream_result built bytes)) s (Some e) t
-        → (failure : WriteError) × (e ≡ error_of failure) × WritesUntilFailure old new (whole-of bytes) failure
-    begun-text bytes given place e apart steps =
-        grind (
-          arith,
-          common_steps,
-          cut-of built list bytes given place apart,
-          text-steps (take place bytes) 0 (take given (stream_result built bytes)) s t (Some e) list same steps,
-        )
-
     pub fails-by : (e : StreamError) → FailsBy passing exchanges ends built reader new_reader s e t
         → FailsToReplace built list (passing.told s.destination) (passing.told t.destination) ends reader new_reader e
     fails-by e (bytes, inl fails, small) =
@@ -104,6 +82,14 @@ module _ {E D : Type 0} (passing : Passing E D) (texts : E → List (List ℕ))
           common_steps,
           text-steps (take fails.place bytes) 0 (take fails.given (stream_result built bytes)) s t None list same fails.steps,
         )
-    fails-by e (bytes, inr (given, place, inl (some, is), steps), small) = search (rules, apart-by built, begun-text)
-    fails-by e (bytes, inr (given, place, inr (all, many, is), steps), small) =
-        search (rules, all-apart, begun-text, last-inside built)
+    fails-by e (bytes, inr (given, place, settled, steps), small) = (
+      bytes,
+      inr (
+        given,
+        place,
+        settled,
+        piece-failed passing (replaced (take place bytes) list (take given (stream_result built bytes))) s t e begins
+            (text-steps (take place bytes) 0 (take given (stream_result built bytes)) s t (Some e) list same steps),
+      ),
+      small,
+    )

@@ -4,7 +4,7 @@ use Rattle.std.specs.Borrow.{Bor, MutBor}
 use Rattle.std.specs.Fn.{Mut}
 use Rattle.std.specs.declared.io.Error.{Error}
 use Rattle.std.proofs.lemmas.Grind.{common_steps}
-use Rattle.ac_automaton.specs.Util.{AnswersStream, AreDecided, Both, Built, FailsToReplace, FailsToReplaceWith, IsSettledAt, IsSettledBy, LeftmostFirst, LeftmostLongest, MatchKind, No, NoneOpen, Occurrence, Reading, ReplacesStream, ReplacesStreamWith, Standard, start_refusal, StartKind, StepsAreSettled, stream_refusal, StreamError, TextIsSettled, Writing}
+use Rattle.ac_automaton.specs.Util.{AnswersStream, AreDecided, Both, Built, FailsToReplace, FailsToReplaceWith, IsSettled, IsSettledAt, IsSettledBy, LeftmostFirst, LeftmostLongest, MatchKind, No, NoneOpen, Occurrence, Reading, ReplacesStream, ReplacesStreamWith, Standard, start_refusal, StartKind, StepsAreSettled, stream_refusal, StreamError, TextIsSettled, Writing}
 use Rattle.ac_search.proofs.Served.{stream-refusals}
 
 module _ (engine : Built) (start_kind : StartKind) where
@@ -35,6 +35,11 @@ module _ (engine : Built) (start_kind : StartKind) where
     refusals : stream_refusal searcher ≡ stream_refusal engine
     refusals = stream-refusals engine start_kind supports free
 
+    settled-in : (bytes : List ℕ) (given place : ℕ) → IsSettled ends engine reader new_reader bytes given place
+        → IsSettled ends searcher reader new_reader bytes given place
+    settled-in bytes given place (inl (some, is)) = inl (some, settled-by engine.kind bytes given place is)
+    settled-in bytes given place (inr all) = inr all
+
     -- with a list of texts
     module _ (texts : List (List ℕ)) (writer new_writer : Writing) where
       text : (bytes : List ℕ) → TextIsSettled engine texts writer new_writer bytes
@@ -51,7 +56,8 @@ module _ (engine : Built) (start_kind : StartKind) where
       replaced (Err e) (inl refused) = grind (arith, common_steps)
       replaced (Err e) (inr (allowed, (bytes, inl (reads, settled), small))) =
           inr (refusals ∙ allowed, (bytes, inl (reads, text bytes settled), small))
-      replaced (Err e) (inr (allowed, (bytes, inr writes, small))) = inr (refusals ∙ allowed, (bytes, inr writes, small))
+      replaced (Err e) (inr (allowed, (bytes, inr (given, place, settled, writes), small))) =
+          inr (refusals ∙ allowed, (bytes, inr (given, place, settled-in bytes given place settled, writes), small))
 
       -- what an automaton built as the engine leaves is what the searcher leaves
       pub replaced-served : {built seen : Built} → built ≡ engine → searcher ≡ seen → (r : Result (Unit {0}) StreamError)

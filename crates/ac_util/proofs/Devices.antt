@@ -7,6 +7,7 @@ use Rattle.std.specs.Io.KnownBytes.{Appends}
 use Rattle.std.proofs.Math.Seq.{take-add}
 use Rattle.std.proofs.KnownBytes.{Appends-trans}
 use Rattle.std.proofs.lemmas.Grind.{common_steps}
+use Rattle.ac_util.specs.Device.{Writing, WritesAll}
 use Rattle.ac_util.specs.Prelude.{FailsToRead, idle, Reading, ReadsAll, ReadsSome, StreamError}
 
 -- what was written so far with what a write has taken
@@ -46,3 +47,7 @@ pub fails-on : {old between : Reading} (new : Reading) (seen total : ℕ) (bytes
     → ReadsSome old between bytes → (e : StreamError) → FailsToRead total between new [] e
     → FailsToRead seen old new bytes e
 fails-on {old} {between} new seen total bytes sum reads e fails = grind (arith, common_steps)
+
+-- some bytes were written, and then some more
+pub writes-join : (a b c : Writing) (xs ys : List ℕ) → WritesAll a b xs → WritesAll b c ys → WritesAll a c (xs ++ ys)
+writes-join a b c xs ys first second = grind (arith, common_steps)

@@ -1,7 +1,8 @@
 -- A stream that goes on: the walk over what was there before stays, and other matches follow.
 use Rattle.std.proofs.lemmas.Grind.{common_steps}
-use Rattle.std.proofs.Common.{◌≡◌, ℕ, zero, suc, ◌+◌, ◌-◌, ◌<◌, ◌≤◌, Bool, true, false, List, [], ◌∷◌, ◌++◌, length, length-append, get_or, refl, ap, sym, ◌∙◌, arith, Option, None, Some, AllPairs, filter, rules}
+use Rattle.std.proofs.Common.{◌≡◌, ℕ, zero, suc, ◌+◌, ◌-◌, ◌<◌, ◌≤◌, Bool, true, false, List, [], ◌∷◌, ◌++◌, length, length-append, get_or, refl, ap, sym, ◌∙◌, arith, Option, None, Some, All, AllPairs, filter, rules}
 use Rattle.std.proofs.lemmas.Bool.{cases_lt, cond-true, cond-false, lt-leb, leb-false}
+use Rattle.std.proofs.lemmas.List.Elements.{All-nil}
 use Rattle.ac_util.specs.Prelude.{whole_input, Built, continued, from, IsAfter, MatchKind, next_match, Occurrence, pick, Search, search_in, Standard, stream_result, unless_repeated, walk, walk_after}
 use Rattle.ac_util.proofs.Beginning.{ends_by, walk-beginning}
 use Rattle.ac_util.proofs.Longer.{pick-extended}
@@ -54,10 +55,10 @@ none-late h (m ∷ ms) late =
     (lt-leb m.end h (late 0 m (omega arith)))
     ∙ none-late h ms (λ k d within. late (suc k) d (omega arith))
 
--- of matches that end later and later those that end by h come first
+-- of matches that end later and later those that end by h come first, and the others end past it
 ends-first : (h : ℕ) (ms : List Occurrence) → AllPairs IsAfter ms
-    → (rest : List Occurrence) × (ms ≡ filter (ends_by h) ms ++ rest)
-ends-first h [] pairs = ([], refl)
+    → (rest : List Occurrence) × (ms ≡ filter (ends_by h) ms ++ rest) × All (λ m. h < m.end) rest
+ends-first h [] pairs = ([], refl, All-nil (λ (m : Occurrence). h < m.end))
 ends-first h (m ∷ ms) pairs = by (ends_by h m) refl (ends-first h ms later)
   where
     later : AllPairs IsAfter ms
@@ -68,14 +69,23 @@ ends-first h (m ∷ ms) pairs = by (ends_by h m) refl (ends-first h ms later)
     late e (suc k) d within =
         let a = (pairs 0 (suc k) d (omega arith) within).rises in let b = leb-false m.end h e in omega arith
 
-    by : (t : Bool) → ends_by h m ≡ t → (rest : List Occurrence) × (ms ≡ filter (ends_by h) ms ++ rest)
-        → (rest : List Occurrence) × (m ∷ ms ≡ filter (ends_by h) (m ∷ ms) ++ rest)
-    by true e i = search (rules, cond-true, ends_by)
-    by false e i = (m ∷ ms, ap (λ (xs : List Occurrence). xs ++ m ∷ ms) (sym (none-late h (m ∷ ms) (late e))))
+    by : (t : Bool) → ends_by h m ≡ t
+        → (rest : List Occurrence) × (ms ≡ filter (ends_by h) ms ++ rest) × All (λ m. h < m.end) rest
+        → (rest : List Occurrence) × (m ∷ ms ≡ filter (ends_by h) (m ∷ ms) ++ rest) × All (λ m. h < m.end) rest
+    by true e i = (
+      i.0,
+      ap (λ (xs : List Occurrence). m ∷ xs) i.1
+          ∙ ap (λ (xs : List Occurrence). xs ++ i.0)
+          (sym (cond-true (ends_by h m) (m ∷ filter (ends_by h) ms) (filter (ends_by h) ms) e)),
+      i.2,
+    )
+    by false e i =
+        (m ∷ ms, ap (λ (xs : List Occurrence). xs ++ m ∷ ms) (sym (none-late h (m ∷ ms) (late e))), λ k d within. late e k d within)
 
--- under Standard a stream that goes on keeps the matches that it had
+-- under Standard a stream that goes on keeps the matches that it had, and others end past what was there
 pub stream_result-begins : (built : Built) → built.kind ≡ Standard → (bytes more : List ℕ)
     → (rest : List Occurrence) × (stream_result built (bytes ++ more) ≡ stream_result built bytes ++ rest)
+    × All (λ m. length bytes < m.end) rest
 stream_result-begins built standard bytes more = (
   first.0,
   ap (λ (kind : MatchKind). walk kind whole) standard ∙ first.1
@@ -83,6 +93,7 @@ stream_result-begins built standard bytes more = (
       (sym (walk-beginning whole (length bytes) (let l = length-append bytes more in omega arith))
       ∙ walk-longer Standard more before (omega arith)
       ∙ ap (λ (kind : MatchKind). walk kind before) (sym standard)),
+  first.2,
 )
   where
     whole : Search
@@ -93,4 +104,5 @@ stream_result-begins built standard bytes more = (
 
     first : (rest : List Occurrence)
         × (walk Standard whole ≡ filter (ends_by (length bytes)) (walk Standard whole) ++ rest)
+        × All (λ m. length bytes < m.end) rest
     first = ends-first (length bytes) (walk Standard whole) (walk-ordered Standard whole)

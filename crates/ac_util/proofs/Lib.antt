@@ -52,3 +52,4 @@ pub mod PickedWalks
 pub mod Commits
 pub mod DeadSteps
 pub mod NodePicks
+pub mod StreamExchanges

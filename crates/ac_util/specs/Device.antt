@@ -107,3 +107,10 @@ pub record WritesUntilFailure (old new : Writing) (bytes : List ℕ) (e : WriteE
 -- the bytes were all written; or a beginning of them was, and then a write has failed or took nothing
 abbrev pub WritesOrFails : Writing → Writing → List ℕ → Result (Unit {0}) WriteError → Type 0
 WritesOrFails old new bytes result = MatchResult result (λ _. WritesAll old new bytes) (WritesUntilFailure old new bytes)
+
+-- a beginning of the bytes was written, or all of them
+pub record WritesBeginning (old new : Writing) (bytes : List ℕ) : Type 0 where
+  pub part : List ℕ
+  pub rest : List ℕ
+  pub whole : bytes ≡ part ++ rest
+  pub moved : Appends old.written new.written part

@@ -13,7 +13,7 @@ use Rattle.ac_util.specs.Node.{is_leftmost, is_node}
 use Rattle.ac_util.specs.Occurrence.{Occurrence, plain, plain_byte, same_byte, Search, from, pattern_of}
 use Rattle.ac_util.specs.Pick.{pick}
 use Rattle.ac_util.specs.Replacement.{replaced, AppendsBeginning, Replacing, ReplacementSteps, WritesText, answer_of}
-use Rattle.ac_util.specs.Stream.{IsSettledAt, NoneOpen, kept_back_len, stream_result, without_last, IsSettledBy}
+use Rattle.ac_util.specs.Stream.{exchanged_to, IsSettledAt, NoneOpen, kept_back_len, stream_exchanged, stream_result, without_last, IsSettledBy}
 use Rattle.ac_util.specs.Walk.{next_match, walk, walk_after}
 
 -- a test is true exactly where its fact holds
@@ -153,6 +153,13 @@ HoldsBack built bytes texts =
     (given place : ℕ) → built.kind ≡ Standard → IsSettledBy built.kind built bytes given place
     → replaced (take place bytes) texts (take given (stream_result built bytes))
     ≡ without_last (kept_back_len built bytes) (replaced bytes texts (stream_result built bytes))
+
+-- what is settled of a stream of which these bytes came begins what is written for each stream that begins with them, whatever
+-- its matches are exchanged for. No pattern is empty
+abbrev pub SettledBegins : Built → (Occurrence → List ℕ → List ℕ) → List ℕ → List ℕ → Type 0
+SettledBegins built write bytes more =
+    (given place : ℕ) → has_empty built ≡ false → IsSettledBy built.kind built bytes given place
+    → (rest : List ℕ) × (stream_exchanged built write (bytes ++ more) ≡ exchanged_to built write bytes given place ++ rest)
 
 module _ (haystack : List ℕ) (texts : List (List ℕ)) where
   -- steps that append to a list the text of each of the matches lead it from s to t

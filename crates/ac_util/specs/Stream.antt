@@ -1,22 +1,23 @@
 -- Streams: what is found in one, what of it is settled, and what stands after its replacement.
-use Rattle.std.specs.Prelude.{ℕ, ◌-◌, ◌*◌, List, [], ◌∷◌, length, min, max, take, ◌≡◌, ◌+◌, ◌<◌, ◌≤◌, true, All, drop, map, ◌⊎◌, Bool, Option, None, Some, Result, Ok, Err, MatchResult}
+use Rattle.std.specs.Prelude.{ℕ, ◌-◌, ◌*◌, List, [], ◌∷◌, ◌++◌, length, min, max, slice_index_or, take, ◌≡◌, ◌+◌, ◌<◌, ◌≤◌, true, All, drop, map, ◌⊎◌, Bool, Option, None, Some, Result, Ok, Err, MatchResult}
 use Rattle.ac_util.specs.declared.device.WriteError.{WriteError}
 use Rattle.ac_util.specs.declared.device.WriteError.TheVariants.{Io as WriteFailed, WriteZero as WroteNothing}
 use Rattle.ac_util.specs.declared.error.StreamError.{StreamError}
 use Rattle.ac_util.specs.declared.error.StreamError.TheVariants.{Io, WriteZero, Match, Memory, TooLong}
 use Rattle.ac_util.specs.Input.{whole_input}
-use Rattle.ac_util.specs.Built.{Built, walk_result}
+use Rattle.ac_util.specs.Built.{Built, stream_refusal, walk_result}
 use Rattle.ac_util.specs.Occurrence.{Occurrence, IsSame, plain, pattern_of}
 use Rattle.ac_util.specs.Patterns.{longest_len, usize_max}
 use Rattle.ac_util.specs.Node.{participates}
 use Rattle.std.specs.Borrow.{Bor, MutBor}
 use Rattle.std.specs.Fn.{Mut}
+use Rattle.std.specs.Io.KnownBytes.{Consumes}
 use Rattle.std.specs.declared.io.Error.{Error}
 use Rattle.ac_util.specs.declared.error.MatchError.{MatchError}
 use Rattle.ac_util.specs.declared.search.MatchKind.{MatchKind}
 use Rattle.ac_util.specs.declared.search.MatchKind.TheVariants.{LeftmostFirst, LeftmostLongest, Standard}
-use Rattle.ac_util.specs.Device.{Reading, ReadsAll, ReadsSome, ReadsTooMany, ReadsUntilFailure, Writing, WritesAll, WritesUntilFailure}
-use Rattle.ac_util.specs.Replacement.{replaced, Answer, Calls, Fails, Continues, Replacing, ReplacementSteps}
+use Rattle.ac_util.specs.Device.{Reading, ReadsAll, ReadsSome, ReadsTooMany, ReadsUntilFailure, Writing, WritesAll, WritesBeginning, WritesUntilFailure}
+use Rattle.ac_util.specs.Replacement.{exchanged_from, replaced, Answer, Calls, Fails, Continues, Replacing, ReplacementSteps}
 
 -- the matches of a stream of which the reader has given these bytes: the walk over all of them. Places count from 0
 -- over the whole stream
@@ -173,6 +174,23 @@ module _ {F D : Type 0} (told : D → Writing)
       × StreamStepsLead bytes (take given (stream_result built bytes)) place (Some e) new))
       × (length bytes ≤ usize_max)
 
+-- the text of the pattern of a match
+abbrev pub text_of : List (List ℕ) → Occurrence → List ℕ → List ℕ
+text_of texts m slice = slice_index_or texts m.pattern []
+
+-- what this gives for as many bytes as a match has
+abbrev pub by_length : (ℕ → List ℕ) → Occurrence → List ℕ → List ℕ
+by_length f m slice = f (length slice)
+
+module _ (built : Built) (write : Occurrence → List ℕ → List ℕ) where
+  -- a stream of these bytes, with each match exchanged for what `write` gives for it and its slice
+  abbrev pub stream_exchanged : List ℕ → List ℕ
+  stream_exchanged bytes = exchanged_from bytes write 0 (stream_result built bytes)
+
+  -- the same as far as a place, by so many of the matches
+  abbrev pub exchanged_to : List ℕ → ℕ → ℕ → List ℕ
+  exchanged_to bytes given place = exchanged_from (take place bytes) write 0 (take given (stream_result built bytes))
+
 module _ (built : Built) (texts : List (List ℕ)) (old new : Writing) where
   -- all bytes of the stream with their matches exchanged for texts
   abbrev pub stream_replaced : List ℕ → List ℕ
@@ -188,16 +206,64 @@ module _ (built : Built) (texts : List (List ℕ)) (old new : Writing) where
   abbrev pub TextIsSettled : List ℕ → Type 0
   TextIsSettled bytes =
       (given place : ℕ) × IsSettledBy built.kind built bytes given place × IsNear built bytes place
-      × WritesAll old new (replaced (take place bytes) texts (take given (stream_result built bytes)))
+      × WritesAll old new (exchanged_to built (text_of texts) bytes given place)
 
   -- a read has failed, or brought more than usize counts, which counts all before it: the replaced text was written as far
-  -- as the stream is settled. Or a write has failed, or took nothing: a beginning of the replaced text of what was read was
-  -- written
+  -- as the stream is settled. Or a write has failed, or took nothing: a beginning of the replaced text was written as far as
+  -- the stream is settled
   abbrev pub FailsToReplace : Bool → Reading → Reading → StreamError → Type 0
   FailsToReplace ends reader new_reader e =
       (bytes : List ℕ)
       × ((FailsToRead 0 reader new_reader bytes e × TextIsSettled bytes)
-      ⊎ ((ReadsSome reader new_reader bytes ⊎ ReadsAll ends reader new_reader bytes)
+      ⊎ ((given place : ℕ) × IsSettled ends built reader new_reader bytes given place
       × ((failure : WriteError) × (e ≡ error_of failure)
-      × WritesUntilFailure old new (stream_replaced bytes) failure)))
+      × WritesUntilFailure old new (exchanged_to built (text_of texts) bytes given place) failure)))
       × (length bytes ≤ usize_max)
+
+module _ (built : Built) (write : Occurrence → List ℕ → List ℕ) (ends : Bool) (reader new_reader : Reading)
+    (old new : Writing) where
+  -- the stream was read to its end, and written with its matches exchanged
+  abbrev pub ExchangesAll : Type 0
+  ExchangesAll = (bytes : List ℕ) × ReadsAll ends reader new_reader bytes × WritesAll old new (stream_exchanged built write bytes)
+
+  -- bytes came, and what was written begins what is written for every stream that begins with them; or the stream was read
+  -- to its end, and what was written begins what is written for it
+  abbrev pub ExchangesBeginning : Type 0
+  ExchangesBeginning =
+      (bytes : List ℕ)
+      × ((((lost : List ℕ) × Consumes reader.left new_reader.left (bytes ++ lost))
+      × ((more : List ℕ) → WritesBeginning old new (stream_exchanged built write (bytes ++ more))))
+      ⊎ (ReadsAll ends reader new_reader bytes × WritesBeginning old new (stream_exchanged built write bytes)))
+
+-- each call writes what `write` gives for the match and its slice, or a beginning of that where it answers an error
+abbrev pub AlwaysWritesOut : {F D : Type 0}
+    → (Occurrence → List ℕ → Replacing F D → Result (Unit {0}) Error → Replacing F D → Type 0)
+    → (D → Writing) → (Occurrence → List ℕ → List ℕ) → Type 0
+AlwaysWritesOut {F} {D} calls told write =
+    (m : Occurrence) (slice : List ℕ) (s : Replacing F D) (r : Result (Unit {0}) Error) (t : Replacing F D)
+    → calls m slice s r t
+    → MatchResult r (λ _. WritesAll (told s.destination) (told t.destination) (write m slice))
+    (λ _. WritesBeginning (told s.destination) (told t.destination) (write m slice))
+
+-- what the replacement of a stream by a closure leaves whose calls write what `write` gives: the stream with its matches
+-- exchanged for that, or after a failure a beginning
+pub record StreamClosureExchanges {F D : Type 0} (told : D → Writing)
+    (closures : Mut F (Bor Occurrence × (Bor (List ℕ) × (MutBor D × Unit {0})))
+    (Result (Unit {0}) Error × (MutBor D × Unit {0}))) : Type 0 where
+  pub whole : (built : Built) (write : Occurrence → List ℕ → List ℕ) (ends : Bool) (reader new_reader : Reading) (closure : F)
+      (old new : D) → AlwaysWritesOut (Calls closures) told write
+      → ReplacesStreamWith told closures built closure old ends reader new_reader new
+      → ExchangesAll built write ends reader new_reader (told old) (told new)
+  pub begun : (built : Built) (write : Occurrence → List ℕ → List ℕ) (ends : Bool) (reader new_reader : Reading) (closure : F)
+      (old new : D) (e : StreamError) → AlwaysWritesOut (Calls closures) told write → stream_refusal built ≡ None
+      → FailsToReplaceWith told closures built closure old ends reader new_reader new e
+      → ExchangesBeginning built write ends reader new_reader (told old) (told new)
+
+-- what a replacement by a list leaves is what one leaves that writes this: all of it, or after a failure a beginning
+pub record TextsExchange (built : Built) (texts : List (List ℕ)) (write : Occurrence → List ℕ → List ℕ) : Type 0 where
+  pub whole : (ends : Bool) (reader new_reader : Reading) (old new : Writing)
+      → ReplacesStream built texts old new ends reader new_reader
+      → ExchangesAll built write ends reader new_reader old new
+  pub begun : (ends : Bool) (reader new_reader : Reading) (old new : Writing) (e : StreamError) → stream_refusal built ≡ None
+      → FailsToReplace built texts old new ends reader new_reader e
+      → ExchangesBeginning built write ends reader new_reader old new

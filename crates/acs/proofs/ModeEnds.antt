@@ -1,5 +1,6 @@
 -- How modes end: a replacement in memory, and the modes on a stream.
-use Rattle.std.proofs.Common.{◌≡◌, ℕ, List, [], ap, ◌∙◌, inl, inr, Bool, None, rules, arith}
+use Rattle.std.proofs.Common.{◌≡◌, ℕ, List, [], ◌++◌, append-nil, ap, refl, sym, ◌∙◌, inl, inr, ◌⊎◌, Bool, false, true, None, rules, arith}
+use Rattle.std.proofs.lemmas.List.{take_all}
 use Rattle.std.specs.Prelude.{MatchResult, Result, Ok, Err}
 use Rattle.std.proofs.lemmas.Grind.{common_steps}
 use Rattle.ac_search.specs.declared.WriteError.{WriteError}
@@ -8,10 +9,12 @@ use Rattle.ac_search.specs.declared.StreamError.{StreamError}
 use Rattle.ac_search.specs.declared.StreamError.TheVariants.{Io as DeviceFailed, Match as Refused, Memory as NoBuffer, TooLong as StreamTooLong, WriteZero as TookNothing}
 use Rattle.ac_search.specs.declared.MatchKind.{MatchKind}
 use Rattle.ac_search.specs.declared.StartKind.{StartKind}
-use Rattle.ac_search.specs.Built.{Built, exchanged, stream_refusal}
-use Rattle.ac_search.specs.Device.{Reading, ReadsAll, Writing, WritesAll, WritesUntilFailure}
+use Rattle.ac_search.specs.Built.{Built, exchanged, has_empty, stream_refusal}
+use Rattle.ac_search.specs.Device.{Reading, ReadsAll, ReadsSome, Writing, WritesAll, WritesUntilFailure}
+use Rattle.ac_search.specs.Laws.{SettledBegins}
+use Rattle.ac_search.specs.Occurrence.{Occurrence}
 use Rattle.ac_search.specs.Replacement.{replaced}
-use Rattle.ac_search.specs.Stream.{error_of, FailsToReplace, IsSettledBy, IsStreamRefused}
+use Rattle.ac_search.specs.Stream.{error_of, exchanged_to, FailsToReplace, IsSettled, IsSettledBy, IsStreamRefused, stream_result, text_of}
 use Rattle.ac_search.specs.Streams.{Streaming}
 use Rattle.ac_search.specs.Searchers.{HasBegun}
 use Rattle.acs.specs.declared.fault.Fault.{Fault}
@@ -29,6 +32,25 @@ write-fails : {old new : Writing} {bytes : List ℕ} {fault : Fault} (failure : 
     → FailsToWrite old new bytes fault
 write-fails (WriteFailed e) is fails = grind (arith, common_steps)
 write-fails WroteNothing is fails = grind (arith, common_steps)
+
+-- where a beginning of some bytes was written, one of all that they begin was
+fails-whole : {old new : Writing} {part whole : List ℕ} (failure : WriteError) → ((rest : List ℕ) × (whole ≡ part ++ rest))
+    → WritesUntilFailure old new part failure → WritesUntilFailure old new whole failure
+fails-whole failure (rest, is) fails = grind (arith, common_steps)
+
+-- a searcher that doesn't refuse streams has no empty pattern
+nonempty-served : (built : Built) → stream_refusal built ≡ None → has_empty built ≡ false
+nonempty-served built served = by (has_empty built) refl
+  where
+    by : (t : Bool) → has_empty built ≡ t → has_empty built ≡ false
+    by false is = is
+    by true is = grind (arith, common_steps)
+
+-- what came of a stream that is settled
+reads-in : {ends : Bool} {built : Built} {reader new_reader : Reading} {bytes : List ℕ} {given place : ℕ}
+    → IsSettled ends built reader new_reader bytes given place → ReadsSome reader new_reader bytes ⊎ ReadsAll ends reader new_reader bytes
+reads-in (inl (some, settled)) = inl some
+reads-in (inr (all, many)) = inr all
 
 module _ (built : Built) (texts : List (List ℕ)) (ends : Bool) (reader new_reader : Reading) (writer new_writer : Writing) where
   -- the replaced text of a haystack was written, or could not be
@@ -65,20 +87,31 @@ module _ (built : Built) (texts : List (List ℕ)) (ends : Bool) (reader new_rea
     stream-printed begun (Ok outcome) served is prints = grind (arith, common_steps)
     stream-printed begun (Err fault) served is fails = search (rules, lines-settled)
 
-  -- a read or a write has failed while a stream was replaced
-  pub replacing-fails : (e : StreamError) (fault : Fault) → fault ≡ stream_fault_of e → stream_refusal built ≡ None
-      → FailsToReplace built texts writer new_writer ends reader new_reader e
-      → FailsToAnswer ends StreamReplace built texts reader new_reader writer new_writer fault
-  replacing-fails e fault is served fails = inr (
-    served,
-    record {
-      bytes = fails.0;
-      cause = elim fails.1 [
-        | inl read ↦ inl (e, is, read.0, read.1)
-        | inr write ↦ inr (
-          write.0,
-          write-fails write.1.0 (is ∙ ap stream_fault_of write.1.1) write.1.2,
+  -- a read or a write has failed while a stream was replaced. What is settled begins the whole
+  module _ (begins : (over : Built) (write : Occurrence → List ℕ → List ℕ) (bytes more : List ℕ) → SettledBegins over write bytes more) where
+    whole-of : (bytes : List ℕ) (given place : ℕ) → has_empty built ≡ false
+        → IsSettled ends built reader new_reader bytes given place
+        → (rest : List ℕ) × (replaced bytes texts (stream_result built bytes) ≡ exchanged_to built (text_of texts) bytes given place ++ rest)
+    whole-of bytes given place some (inl (reads, settled)) =
+        let whole = begins built (text_of texts) bytes [] given place some settled in
+        (whole.0, ap (λ (w : List ℕ). replaced w texts (stream_result built w)) (sym (append-nil bytes)) ∙ whole.1)
+    whole-of bytes given place some (inr (reads, all, many)) =
+        ([], grind (arith, common_steps, take_all place bytes (omega arith), take_all given (stream_result built bytes) (omega arith)))
+
+    pub replacing-fails : (e : StreamError) (fault : Fault) → fault ≡ stream_fault_of e → stream_refusal built ≡ None
+        → FailsToReplace built texts writer new_writer ends reader new_reader e
+        → FailsToAnswer ends StreamReplace built texts reader new_reader writer new_writer fault
+    replacing-fails e fault is served (bytes, inl read, small) =
+        inr (served, record { bytes = bytes; cause = inl (e, is, read.0, read.1) })
+    replacing-fails e fault is served (bytes, inr (given, place, settled, (failure, why, fails)), small) =
+        inr (
+          served,
+          record {
+            bytes = bytes;
+            cause = inr (
+              reads-in settled,
+              write-fails failure (is ∙ ap stream_fault_of why)
+                  (fails-whole failure (whole-of bytes given place (nonempty-served built served) settled) fails),
+            );
+          },
         )
-      ];
-    },
-  )
