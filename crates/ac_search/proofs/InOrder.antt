@@ -1,11 +1,12 @@
 -- The matches of a walk stand one after another.
-use Rattle.std.proofs.Common.{ℕ, suc, ◌≤◌, List, [], ◌∷◌, length, arith, All, AllPairs}
+use Rattle.std.proofs.Common.{◌≡◌, ℕ, suc, ◌+◌, ◌<◌, ◌≤◌, false, List, [], ◌∷◌, length, arith, All, AllPairs}
 use Rattle.std.proofs.lemmas.List.Elements.{All-head, All-tail, All-weaker}
-use Rattle.ac_automaton.specs.Util.{Built, InputView, LiesIn, Occurrence, order_of, search_in, walk_result}
+use Rattle.ac_automaton.specs.Util.{Built, has_empty, InputView, LiesIn, Occurrence, order_of, search_in, walk_result}
 use Rattle.ac_util.specs.Walk.{IsAfter}
 use Rattle.ac_util.proofs.Lying.{walk_result-lie}
+use Rattle.ac_util.proofs.Shortest.{none-empty}
 use Rattle.ac_util.proofs.Walks.{walk-ordered}
-use Rattle.ac_search.specs.Alike.{StandInOrder}
+use Rattle.ac_search.specs.Alike.{StandApart, StandInOrder}
 
 -- matches that lie in the haystack, that are each after those before, and that start no earlier than low
 stand : (built : Built) (input : InputView) (low : ℕ) (ms : List Occurrence) → All (LiesIn built input) ms
@@ -28,3 +29,22 @@ walk-stands built input inside =
     let ms = walk_result built input in
     stand built input input.start ms lie (walk-ordered (order_of built.kind input.earliest) (search_in built input))
     (All-weaker (LiesIn built input) (λ (m : Occurrence). input.start ≤ m.start) (λ m h. h.from_start) ms lie)
+
+-- where no pattern is empty none of them is
+apart : (built : Built) (input : InputView) (low : ℕ) (ms : List Occurrence) → has_empty built ≡ false
+    → All (LiesIn built input) ms → StandInOrder low (length input.haystack) ms → StandApart low (length input.haystack) ms
+apart built input low [] some lie order = tt
+apart built input low (m ∷ ms) some lie order =
+    let here = All-head (LiesIn built input) m ms lie in
+    let has = none-empty built.patterns m.pattern some here.numbered in let long = here.as_long in (
+      order.0,
+      omega arith,
+      order.2,
+      apart built input m.end ms some (All-tail (LiesIn built input) m ms lie) order.3,
+    )
+
+pub walk-apart : (built : Built) (input : InputView) → has_empty built ≡ false → input.end ≤ length input.haystack
+    → StandApart input.start (length input.haystack) (walk_result built input)
+walk-apart built input some inside =
+    apart built input input.start (walk_result built input) some (walk_result-lie built input inside)
+    (walk-stands built input inside)

@@ -4,3 +4,4 @@ pub mod SomeMatch
 pub mod InOrder
 pub mod StreamCounts
 pub mod Words
+pub mod StreamsWritten

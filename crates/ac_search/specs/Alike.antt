@@ -1,5 +1,10 @@
--- How answers of several settings, engines and spans agree, and in what order matches come.
-use Rattle.std.specs.Prelude.{◌≡◌, ℕ, List, ◌<◌, Err, None, Option, Result, Some, ◌+◌, ◌-◌, ◌≤◌, IfSome, length, [], ◌∷◌, ⊤}
+-- How answers of several settings, engines and spans agree, in what order matches come, and what is written of a stream.
+use Rattle.std.specs.Prelude.{◌≡◌, ℕ, Bool, List, ◌<◌, Err, MatchResult, None, Option, Result, Some, ◌+◌, ◌-◌, ◌≤◌, IfSome, length, [], ◌∷◌, ⊤}
+use Rattle.std.specs.declared.io.Error.{Error}
+use Rattle.ac_util.specs.Device.{Reading, Writing}
+use Rattle.ac_util.specs.Stream.{ExchangesAll, ExchangesBeginning}
+use Rattle.ac_util.specs.declared.error.StreamError.{StreamError}
+use Rattle.ac_automaton.specs.Answers.{Calling, ExchangesStream, ExchangesStreamBy}
 use Rattle.ac_automaton.specs.Util.{all, Built, exchanged, exchanged_in_text, find_refusal, find_result, InputView, IsSettledBy, kept_back_len, MatchKind, overlapping_iter_refusal, overlapping_refusal, replace_refusal, search_in, StartKind, stream_refusal, stream_result, IsBetweenCharacters, Occurrence, Occurs, walk_result}
 use Rattle.ac_search.specs.Searchers.{IsBuilt, Searcher, Settings, starting_by}
 use Rattle.std.specs.List.{AllByRecursion}
@@ -98,6 +103,15 @@ StandInOrder low high (m ∷ ms) = (low ≤ m.start) × (m.start ≤ m.end) × (
 abbrev pub WalksInOrder : Built → InputView → Type 0
 WalksInOrder built input = StandInOrder input.start (length input.haystack) (walk_result built input)
 
+-- the same where none of the matches is empty
+abbrev pub StandApart : ℕ → ℕ → List Occurrence → Type 0
+StandApart low high [] = ⊤
+StandApart low high (m ∷ ms) = (low ≤ m.start) × (m.start < m.end) × (m.end ≤ high) × StandApart m.end high ms
+
+-- those of a walk do so
+abbrev pub WalksApart : Built → InputView → Type 0
+WalksApart built input = StandApart input.start (length input.haystack) (walk_result built input)
+
 -- each byte is ASCII
 abbrev pub AreAscii : List ℕ → Type 0
 AreAscii [] = Unit {0}
@@ -108,3 +122,31 @@ abbrev pub AreWords : List (List ℕ) → Type 0
 AreWords [] = Unit {0}
 AreWords ([] ∷ ps) = ⊥
 AreWords ((b ∷ bs) ∷ ps) = AreAscii (b ∷ bs) × AreWords ps
+
+-- a stream was read to its end, and written with its matches exchanged for what `write` gives; or, where that has failed, what
+-- was written begins what is written for every stream that begins with the bytes that came
+module _ {R W : Type 0} (ends : Bool) (reads : R → Reading) (writes : W → Writing) where
+  abbrev pub WritesExchanged : {E : Type 0} → Built → (Occurrence → List ℕ → List ℕ) → R → W → R → W → Result (Unit {0}) E → Type 0
+  WritesExchanged built write reader writer new_reader new_writer result =
+      MatchResult result
+      (λ _. ExchangesAll built write ends (reads reader) (reads new_reader) (writes writer) (writes new_writer))
+      (λ _. ExchangesBeginning built write ends (reads reader) (reads new_reader) (writes writer) (writes new_writer))
+
+  -- what a replacement by a list of texts leaves is what one leaves that writes this
+  abbrev pub ListsWrite : Built → List (List ℕ) → (Occurrence → List ℕ → List ℕ) → Type 0
+  ListsWrite built texts write =
+      (reader new_reader : R) (writer new_writer : W) (result : Result (Unit {0}) StreamError)
+      → ExchangesStream ends reads writes built texts reader writer new_reader new_writer result
+      → WritesExchanged built write reader writer new_reader new_writer result
+
+  -- and so is what one by a closure leaves
+  abbrev pub ClosuresWrite : {F : Type 0} → Calling F W (Result (Unit {0}) Error) → Built → (Occurrence → List ℕ → List ℕ) → Type 0
+  ClosuresWrite {F} closures built write =
+      (closure : F) (reader new_reader : R) (writer new_writer : W) (result : Result (Unit {0}) StreamError)
+      → ExchangesStreamBy ends reads writes closures built closure reader writer new_reader new_writer result
+      → WritesExchanged built write reader writer new_reader new_writer result
+
+  -- nothing was read and nothing was written: a beginning, if an empty one
+  abbrev pub UnchangedBegins : Built → (Occurrence → List ℕ → List ℕ) → R → W → Type 0
+  UnchangedBegins built write reader writer =
+      ExchangesBeginning built write ends (reads reader) (reads reader) (writes writer) (writes writer)

@@ -1,32 +1,35 @@
 //! Laws that users of a searcher may rely on, each the contract of a function that does nothing. They are about the
 //! definitions that the contracts of the searches are made of: nothing is called, nothing is assumed.
-ghost use Rattle.std.specs.Prelude.{◌≡◌, ◌≢◌, ◌↔◌, Bool, IsTrue, None, length, true};
+ghost use Rattle.std.specs.Prelude.{◌≡◌, ◌≢◌, ◌↔◌, All, Bool, IsTrue, List, None, false, length, map, true, ℕ};
 ghost use Rattle.std.specs.Str.{IsUtf8};
-ghost use Rattle.ac_automaton.specs.Util.{AreTexts, InputView, input_of, Built, find_refusal, find_result, has_empty, LiesIn, MatchKind, shortest_len, StartKind, walk_result};
+ghost use Rattle.ac_util.specs.Replacement.{Calls};
+ghost use Rattle.ac_util.specs.Stream.{AlwaysWritesOut, by_length, text_of};
+ghost use Rattle.ac_automaton.specs.Util.{AreTexts, InputView, input_of, Built, find_refusal, find_result, has_empty, LiesIn, MatchKind, Occurrence, shortest_len, StartKind, stream_result, walk_result};
 ghost use Rattle.ac_automaton.specs.Iterators.{GoesOn};
 ghost use Rattle.ac_automaton.specs.Overlaps.{ListsNext};
 ghost use Rattle.ac_automaton.specs.Streams.{GivesStreamItem, items_left};
-ghost use Rattle.ac_search.specs.Alike.{BuildAlike, FindAlike, ListAlike, ReplaceAlike, SettlesAlike, StreamAlike, EndsAtError, LeavesLess, StaysEnded, EndsInside, FindsOnly, IsNumberedBelow, ListsOnly, SomeOccurs, StandsBetweenCharacters, WalksFew, WalksOnly, WalksInOrder, AreWords};
+ghost use Rattle.ac_search.specs.Alike.{ClosuresWrite, ListsWrite, UnchangedBegins, BuildAlike, FindAlike, ListAlike, ReplaceAlike, SettlesAlike, StreamAlike, EndsAtError, LeavesLess, StaysEnded, EndsInside, FindsOnly, IsNumberedBelow, ListsOnly, SomeOccurs, StandApart, StandInOrder, StandsBetweenCharacters, WalksApart, WalksFew, WalksOnly, WalksInOrder, AreWords};
 ghost use Rattle.ac_search.specs.Searchers.{Settings};
 ghost use Rattle.ac_search.specs.declared.ahocorasick.choice.AhoCorasickKind.{AhoCorasickKind};
 ghost use Rattle.ac_engines.specs.declared.nfa.contiguous.format.Format.{Format};
 
 use crate::ahocorasick::{AhoCorasick, AhoCorasickKind};
 use ac_engines::nfa::contiguous::Format;
+use ac_util::device::{Sink, Source};
 pub use ac_util::laws::{
     classes_are_lawful, classes_set_apart, clones_are_equal, clones_take_no_memory,
     closure_exchanges, defaults_are_stated, earliest_is_standard, equal_values_hash_equally,
     errors_compare_by_their_fields, greatest_number_is_stated, listing_goes_on, listing_is_exact,
     matches_are_not_empty, matches_cut_no_character, matches_lie_inside,
     numbers_compare_as_numbers, only_the_span_counts, pick_comes_first, sameness_is_by_letter,
-    settled_begins_whole, settled_stays, standard_holds_back, steps_replace,
-    stream_closure_exchanges, stream_goes_on, strides_have_room, tests_decide,
-    text_closure_exchanges, texts_exchange, unchanged_is_beginning, values_compare_by_their_fields,
+    settled_begins_whole, settled_stays, standard_holds_back, steps_replace, stream_goes_on,
+    strides_have_room, tests_decide, text_closure_exchanges, values_compare_by_their_fields,
     values_hash_by_their_fields, walk_goes_on, walk_has_beginnings, walk_is_in_order,
     walk_is_short,
 };
-use ac_util::search::{Anchored, Input, StartKind};
+use ac_util::search::{Anchored, Input, Match, StartKind};
 use std::alloc::Allocator;
+use std::io;
 
 /// The match that a find returns, each match of a walk and each occurrence of the listing lie in the input's span, and
 /// so in the haystack, and have the number of a pattern. A walk has at most one match more than the span has bytes.
@@ -76,6 +79,31 @@ pub fn answers_have_values<A: Allocator, T>(
 /// `StandInOrder`, from where the match before ended, over the matches still to come.
 pub fn matches_stand_in_order<A: Allocator>(searcher: &AhoCorasick<A>, input: Input<'_>)
     ensures { WalksInOrder searcher.now.built (input_of input.entry) }
+{}
+
+/// Where no pattern is empty, the matches of a walk stand one after another, and none of them is empty.
+///
+/// Call this as `matches_stand_in_order`, where each match has to have a byte. The loop's invariant is then `StandApart`.
+pub fn matches_stand_apart<A: Allocator>(searcher: &AhoCorasick<A>, input: Input<'_>)
+    requires { has_empty searcher.now.built ≡ false }
+    ensures { WalksApart searcher.now.built (input_of input.entry) }
+{}
+
+/// The matches of a stream stand one after another in its bytes; and where no pattern is empty, none of them is.
+pub fn stream_matches_stand_in_order<A: Allocator>(searcher: &AhoCorasick<A>)
+    ensures in_order { (bytes : List ℕ)
+        → StandInOrder 0 (length bytes) (stream_result searcher.now.built bytes) }
+    ensures apart { (bytes : List ℕ) → has_empty searcher.now.built ≡ false
+        → StandApart 0 (length bytes) (stream_result searcher.now.built bytes) }
+{}
+
+/// Patterns that `patterns_of` made of texts are texts as `answers_cut_no_character` requires, if none of them is empty.
+///
+/// Call this before it. A searcher whose `min_pattern_len` isn't 0 has no empty pattern (`shortest_is_empty`).
+pub fn nonempty_texts_are_texts<A: Allocator>(searcher: &AhoCorasick<A>)
+    requires texts { All IsUtf8 searcher.now.built.patterns }
+    requires nonempty { has_empty searcher.now.built ≡ false }
+    ensures { AreTexts searcher.now.built.patterns }
 {}
 
 /// Patterns of ASCII bytes of which none is empty are texts, as `answers_cut_no_character` requires.
@@ -172,4 +200,34 @@ pub fn formats_compare()
     ensures equal { (a b : Format) → (⟦<Format as PartialEq>⟧.eq a b ≡ true) ↔ (a ≡ b) }
     ensures clone { (a b : Format) → ⟦<Format as Clone>⟧.is_clone a b → b ≡ a }
     ensures no_memory { (a : Format) → ⟦<Format as Clone>⟧.is_infallible a }
+{}
+
+/// A replacement of a stream by a list leaves the stream with each match exchanged for the text of its pattern; and where it
+/// fails, a prefix of what is written for every stream that begins with the bytes that were read. Where each text is what `f`
+/// gives for the length of its pattern, `f` of a match's length stands for the match.
+///
+/// Call this before such a replacement, as `lists_write_exchanged::<R, W>()`, to say what was written by the stream alone. It
+/// also says that where nothing was read or written, an empty prefix was written: for errors that come before the replacement.
+pub fn lists_write_exchanged<R: Source, W: Sink>()
+    ensures texts { (built : Built) (texts : List (List ℕ)) → ListsWrite R.empty_means_end R.told W.told built texts (text_of texts) }
+    ensures by_length { (built : Built) (texts : List (List ℕ)) (f : ℕ → List ℕ)
+        → texts ≡ map (λ p. f (length p)) built.patterns → ListsWrite R.empty_means_end R.told W.told built texts (by_length f) }
+    ensures unchanged { (built : Built) (write : Occurrence → List ℕ → List ℕ) (reader : R) (writer : W)
+        → UnchangedBegins R.empty_means_end R.told W.told built write reader writer }
+{}
+
+/// A closure that writes what `write` gives for each match and its slice, and that returns an error only after a prefix of
+/// that, leaves the stream with each match exchanged for it; and where the replacement fails, a prefix of what is written for
+/// every stream that begins with the bytes that were read.
+///
+/// Call this before a replacement of a stream by such a closure, as `closures_write_exchanged::<R, W, _>(&closure)`.
+pub fn closures_write_exchanged<
+    R: Source,
+    W: Sink,
+    F: FnMut(&Match, &[u8], &mut W) -> io::Result<()>,
+>(_closure: &F)
+    ensures closure { (built : Built) (write : Occurrence → List ℕ → List ℕ) → AlwaysWritesOut (Calls F.FnMut) W.told write
+        → ClosuresWrite R.empty_means_end R.told W.told F.FnMut built write }
+    ensures unchanged { (built : Built) (write : Occurrence → List ℕ → List ℕ) (reader : R) (writer : W)
+        → UnchangedBegins R.empty_means_end R.told W.told built write reader writer }
 {}

@@ -13,7 +13,7 @@ use Rattle.ac_util.specs.declared.device.WriteError.{WriteError}
 use Rattle.ac_util.specs.Prelude.{Built, Calls, exchanged_from, FailsToRead, LiesIn, Occurrence, Reading, ReplacementSteps, Replacing, StreamError, Turn, stream_result, whole_input}
 use Rattle.ac_util.specs.Built.{has_empty, stream_refusal}
 use Rattle.ac_util.specs.Device.{Writing, WritesAll, WritesBeginning, WritesUntilFailure}
-use Rattle.ac_util.specs.Stream.{AlwaysWritesOut, answer_of_result, by_length, exchanged_to, ExchangesAll, ExchangesBeginning, FailsToReplace, FailsToReplaceWith, IsSettled, IsSettledBy, ReplacesStreamWith, StreamClosureExchanges, stream_exchanged, text_of, TextsExchange, WritesPiece}
+use Rattle.ac_util.specs.Stream.{AlwaysWritesOut, answer_of_result, by_length, exchanged_to, ExchangesAll, ExchangesBeginning, FailsToReplace, FailsToReplaceWith, IsSettled, IsSettledBy, ReplacesStreamWith, stream_exchanged, text_of, WritesPiece}
 use Rattle.ac_util.proofs.Devices.{writes-join}
 use Rattle.ac_util.proofs.Lying.{walk_result-lie}
 use Rattle.ac_util.proofs.ReplacedCuts.{settled-begins}
@@ -189,11 +189,11 @@ unchanged-begins built write ends reader writer = (
 module _ {F D : Type 0} (told : D → Writing)
     (closures : Mut F (Bor Occurrence × (Bor (List ℕ) × (MutBor D × Unit {0})))
     (Result (Unit {0}) Error × (MutBor D × Unit {0}))) where
-  whole-by : (built : Built) (write : Occurrence → List ℕ → List ℕ) (ends : Bool) (reader new_reader : Reading) (closure : F)
+  pub closure-whole : (built : Built) (write : Occurrence → List ℕ → List ℕ) (ends : Bool) (reader new_reader : Reading) (closure : F)
       (old new : D) → AlwaysWritesOut (Calls closures) told write
       → ReplacesStreamWith told closures built closure old ends reader new_reader new
       → ExchangesAll built write ends reader new_reader (told old) (told new)
-  whole-by built write ends reader new_reader closure old new writes (bytes, reads, (left, steps), small) = (
+  closure-whole built write ends reader new_reader closure old new writes (bytes, reads, (left, steps), small) = (
     bytes,
     reads,
     subst (WritesAll (told old) (told new))
@@ -202,37 +202,47 @@ module _ {F D : Type 0} (told : D → Writing)
         (record { closure = closure; destination = old }) (record { closure = left; destination = new }) steps),
   )
 
-  begun-by : (built : Built) (write : Occurrence → List ℕ → List ℕ) (ends : Bool) (reader new_reader : Reading) (closure : F)
+  pub closure-begun : (built : Built) (write : Occurrence → List ℕ → List ℕ) (ends : Bool) (reader new_reader : Reading) (closure : F)
       (old new : D) (e : StreamError) → AlwaysWritesOut (Calls closures) told write → stream_refusal built ≡ None
       → FailsToReplaceWith told closures built closure old ends reader new_reader new e
       → ExchangesBeginning built write ends reader new_reader (told old) (told new)
-  begun-by built write ends reader new_reader closure old new e writes served (bytes, inl (fails, (given, place, settled, near, (left, steps))), small) =
+  closure-begun built write ends reader new_reader closure old new e writes served (bytes, inl (fails, (given, place, settled, near, (left, steps))), small) =
       read-begins built write ends reader new_reader (told old) (told new) bytes given place e served fails settled
       (steps-write told closures write writes (take place bytes) 0 (take given (stream_result built bytes))
       (record { closure = closure; destination = old }) (record { closure = left; destination = new }) steps)
-  begun-by built write ends reader new_reader closure old new e writes served (bytes, inr (given, place, settled, (left, steps)), small) =
+  closure-begun built write ends reader new_reader closure old new e writes served (bytes, inr (given, place, settled, (left, steps)), small) =
       part-begins built write ends reader new_reader (told old) (told new) bytes given place served settled
       (steps-begin told closures write writes (take place bytes) 0 (take given (stream_result built bytes))
       (record { closure = closure; destination = old }) (record { closure = left; destination = new }) (Some e) steps)
 
-  pub closure-exchanges : StreamClosureExchanges told closures
-  closure-exchanges = record { whole = whole-by; begun = begun-by }
-
 -- by a list of texts
-pub texts-exchange : (built : Built) (texts : List (List ℕ)) → TextsExchange built texts (text_of texts)
-texts-exchange built texts = record {
-  whole = λ ends reader new_reader old new h. (h.0, h.1, h.2);
-  begun = λ ends reader new_reader old new e served h. by ends reader new_reader old new e served h;
-}
-  where
-    by : (ends : Bool) (reader new_reader : Reading) (old new : Writing) (e : StreamError) → stream_refusal built ≡ None
-        → FailsToReplace built texts old new ends reader new_reader e
-        → ExchangesBeginning built (text_of texts) ends reader new_reader old new
-    by ends reader new_reader old new e served (bytes, inl (fails, (given, place, settled, near, all)), small) =
-        read-begins built (text_of texts) ends reader new_reader old new bytes given place e served fails settled all
-    by ends reader new_reader old new e served (bytes, inr (given, place, settled, (failure, is, fails)), small) =
-        part-begins built (text_of texts) ends reader new_reader old new bytes given place served settled
-        (begins-failed old new (exchanged_to built (text_of texts) bytes given place) failure fails)
+module _ (built : Built) (texts : List (List ℕ)) (ends : Bool) (reader new_reader : Reading) (old new : Writing) where
+  pub texts-whole : ReplacesStream built texts old new ends reader new_reader
+      → ExchangesAll built (text_of texts) ends reader new_reader old new
+  texts-whole h = (h.0, h.1, h.2)
+
+  pub texts-begun : (e : StreamError) → stream_refusal built ≡ None
+      → FailsToReplace built texts old new ends reader new_reader e
+      → ExchangesBeginning built (text_of texts) ends reader new_reader old new
+  texts-begun e served (bytes, inl (fails, (given, place, settled, near, all)), small) =
+      read-begins built (text_of texts) ends reader new_reader old new bytes given place e served fails settled all
+  texts-begun e served (bytes, inr (given, place, settled, (failure, is, fails)), small) =
+      part-begins built (text_of texts) ends reader new_reader old new bytes given place served settled
+      (begins-failed old new (exchanged_to built (text_of texts) bytes given place) failure fails)
+
+-- where matches are exchanged for the same, what is written is the same
+module _ (built : Built) (write other : Occurrence → List ℕ → List ℕ)
+    (same : (bytes : List ℕ) → stream_exchanged built write bytes ≡ stream_exchanged built other bytes) (ends : Bool)
+    (reader new_reader : Reading) (old new : Writing) where
+  pub all-alike : ExchangesAll built write ends reader new_reader old new
+      → ExchangesAll built other ends reader new_reader old new
+  all-alike h = (h.0, h.1, subst (WritesAll old new) (same h.0) h.2)
+
+  pub beginning-alike : ExchangesBeginning built write ends reader new_reader old new
+      → ExchangesBeginning built other ends reader new_reader old new
+  beginning-alike (bytes, inl (some, begun)) =
+      (bytes, inl (some, λ more. subst (WritesBeginning old new) (same (bytes ++ more)) (begun more)))
+  beginning-alike (bytes, inr (reads, begun)) = (bytes, inr (reads, subst (WritesBeginning old new) (same bytes) begun))
 
 -- where each text is what f gives for the length of its pattern
 module _ (built : Built) (texts : List (List ℕ)) (f : ℕ → List ℕ) (are : texts ≡ map (λ p. f (length p)) built.patterns) where
@@ -253,21 +263,7 @@ module _ (built : Built) (texts : List (List ℕ)) (f : ℕ → List ℕ) (are :
       ap (λ (w : List ℕ). slice_range bytes place m.start ++ w ++ exchanged_from bytes (text_of texts) m.end ms) here
       ∙ ap (λ (w : List ℕ). slice_range bytes place m.start ++ by_length f m (slice_range bytes m.start m.end) ++ w) later
 
-  same : (bytes : List ℕ) → stream_exchanged built (text_of texts) bytes ≡ stream_exchanged built (by_length f) bytes
-  same bytes =
+  pub by_length-same : (bytes : List ℕ)
+      → stream_exchanged built (text_of texts) bytes ≡ stream_exchanged built (by_length f) bytes
+  by_length-same bytes =
       exchanged-by_length bytes 0 (stream_result built bytes) (walk_result-lie built (whole_input bytes) (omega arith))
-
-  pub texts-by_length : TextsExchange built texts (by_length f)
-  texts-by_length = record {
-    whole = λ ends reader new_reader old new h. (h.0, h.1, subst (WritesAll old new) (same h.0) h.2);
-    begun = λ ends reader new_reader old new e served h.
-        by ends reader new_reader old new ((texts-exchange built texts).begun ends reader new_reader old new e served h);
-  }
-    where
-      by : (ends : Bool) (reader new_reader : Reading) (old new : Writing)
-          → ExchangesBeginning built (text_of texts) ends reader new_reader old new
-          → ExchangesBeginning built (by_length f) ends reader new_reader old new
-      by ends reader new_reader old new (bytes, inl (some, begun)) =
-          (bytes, inl (some, λ more. subst (WritesBeginning old new) (same (bytes ++ more)) (begun more)))
-      by ends reader new_reader old new (bytes, inr (reads, begun)) =
-          (bytes, inr (reads, subst (WritesBeginning old new) (same bytes) begun))

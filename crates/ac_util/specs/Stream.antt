@@ -5,7 +5,7 @@ use Rattle.ac_util.specs.declared.device.WriteError.TheVariants.{Io as WriteFail
 use Rattle.ac_util.specs.declared.error.StreamError.{StreamError}
 use Rattle.ac_util.specs.declared.error.StreamError.TheVariants.{Io, WriteZero, Match, Memory, TooLong}
 use Rattle.ac_util.specs.Input.{whole_input}
-use Rattle.ac_util.specs.Built.{Built, stream_refusal, walk_result}
+use Rattle.ac_util.specs.Built.{Built, walk_result}
 use Rattle.ac_util.specs.Occurrence.{Occurrence, IsSame, plain, pattern_of}
 use Rattle.ac_util.specs.Patterns.{longest_len, usize_max}
 use Rattle.ac_util.specs.Node.{participates}
@@ -244,26 +244,3 @@ AlwaysWritesOut {F} {D} calls told write =
     → calls m slice s r t
     → MatchResult r (λ _. WritesAll (told s.destination) (told t.destination) (write m slice))
     (λ _. WritesBeginning (told s.destination) (told t.destination) (write m slice))
-
--- what the replacement of a stream by a closure leaves whose calls write what `write` gives: the stream with its matches
--- exchanged for that, or after a failure a beginning
-pub record StreamClosureExchanges {F D : Type 0} (told : D → Writing)
-    (closures : Mut F (Bor Occurrence × (Bor (List ℕ) × (MutBor D × Unit {0})))
-    (Result (Unit {0}) Error × (MutBor D × Unit {0}))) : Type 0 where
-  pub whole : (built : Built) (write : Occurrence → List ℕ → List ℕ) (ends : Bool) (reader new_reader : Reading) (closure : F)
-      (old new : D) → AlwaysWritesOut (Calls closures) told write
-      → ReplacesStreamWith told closures built closure old ends reader new_reader new
-      → ExchangesAll built write ends reader new_reader (told old) (told new)
-  pub begun : (built : Built) (write : Occurrence → List ℕ → List ℕ) (ends : Bool) (reader new_reader : Reading) (closure : F)
-      (old new : D) (e : StreamError) → AlwaysWritesOut (Calls closures) told write → stream_refusal built ≡ None
-      → FailsToReplaceWith told closures built closure old ends reader new_reader new e
-      → ExchangesBeginning built write ends reader new_reader (told old) (told new)
-
--- what a replacement by a list leaves is what one leaves that writes this: all of it, or after a failure a beginning
-pub record TextsExchange (built : Built) (texts : List (List ℕ)) (write : Occurrence → List ℕ → List ℕ) : Type 0 where
-  pub whole : (ends : Bool) (reader new_reader : Reading) (old new : Writing)
-      → ReplacesStream built texts old new ends reader new_reader
-      → ExchangesAll built write ends reader new_reader old new
-  pub begun : (ends : Bool) (reader new_reader : Reading) (old new : Writing) (e : StreamError) → stream_refusal built ≡ None
-      → FailsToReplace built texts old new ends reader new_reader e
-      → ExchangesBeginning built write ends reader new_reader old new

@@ -54,6 +54,17 @@ pub enum WriteError {
     WriteZero,
 }
 
+/// Makes `?` work where an `io::Error` is returned, as in a closure that replaces matches of a stream. The kind of the error
+/// is `WriteZero` where a write took no byte.
+impl From<WriteError> for io::Error {
+    fn from(error: WriteError) -> io::Error {
+        match error {
+            WriteError::Io(e) => e,
+            WriteError::WriteZero => io::Error::from(io::ErrorKind::WriteZero),
+        }
+    }
+}
+
 /// Writes all of the bytes, with as many calls of the writer as that needs, and none for no bytes.
 ///
 /// # Errors

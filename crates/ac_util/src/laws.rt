@@ -8,9 +8,8 @@ pub use answers::{
     closure_exchanges, earliest_is_standard, listing_goes_on, listing_is_exact,
     matches_are_not_empty, matches_cut_no_character, matches_lie_inside, only_the_span_counts,
     pick_comes_first, sameness_is_by_letter, settled_begins_whole, settled_stays,
-    standard_holds_back, steps_replace, stream_closure_exchanges, stream_goes_on, tests_decide,
-    text_closure_exchanges, texts_exchange, unchanged_is_beginning, walk_goes_on,
-    walk_has_beginnings, walk_is_in_order, walk_is_short,
+    standard_holds_back, steps_replace, stream_goes_on, tests_decide, text_closure_exchanges,
+    walk_goes_on, walk_has_beginnings, walk_is_in_order, walk_is_short,
 };
 pub use values::{
     classes_are_lawful, classes_set_apart, clones_are_equal, clones_take_no_memory,

@@ -1,10 +1,9 @@
 //! For users: what follows from the definitions of what a search answers.
-ghost use Rattle.std.specs.Prelude.{◌≡◌, ℕ, ◌<◌, ◌≤◌, ◌↔◌, ◌⊎◌, Bool, true, false, List, [], Contains, AllPairs, length, map, slice_get, Option, None, Some};
+ghost use Rattle.std.specs.Prelude.{◌≡◌, ℕ, ◌<◌, ◌≤◌, ◌↔◌, ◌⊎◌, Bool, true, false, List, [], Contains, AllPairs, length, slice_get, Option, None, Some};
 ghost use Rattle.std.specs.Str.{IsCharBoundary};
 ghost use Rattle.ac_util.specs.declared.search.MatchKind.{MatchKind};
 ghost use Rattle.ac_util.specs.declared.search.MatchKind.TheVariants.{Standard};
 ghost use Rattle.ac_util.specs.Built.{Built, find_result, has_empty, LiesIn, search_in, walk_result};
-ghost use Rattle.ac_util.specs.Device.{Reading, Writing};
 ghost use Rattle.ac_util.specs.Input.{InputView};
 ghost use Rattle.ac_util.specs.Laws.{AllLieIn, AnswerLiesIn, AreAlike, CutsNoCharacter, Decides, EarliestIsStandard, HoldsBack, IsInListing, IsPastListing, MatchesStay, SettledBegins, SettledStays, StayingIsDecided, StepsKeep, StepsLeaveBeginning, StepsLeaveWhole, WalkBegins, WalkEnds, WalkGoesOn, matched_pattern, most_matches};
 ghost use Rattle.ac_util.specs.Listing.{all, IsBefore, item_at};
@@ -13,13 +12,10 @@ ghost use Rattle.ac_util.specs.Pick.{IsPick, order_of, pick};
 ghost use Rattle.ac_util.specs.Replacement.{is_char_boundary, Calls, ClosureExchanges};
 ghost use Rattle.ac_util.specs.declared.error.ReplaceError.{ReplaceError};
 ghost use Rattle.ac_util.specs.Node.{cut, outward};
-ghost use Rattle.ac_util.specs.Stream.{by_length, ExchangesBeginning, StreamClosureExchanges, text_of, TextsExchange};
 ghost use Rattle.ac_util.specs.Walk.{IsAfter, walk};
 
-use crate::device::Sink;
 use crate::error::ReplaceError;
 use crate::search::Match;
-use std::io;
 
 /// Two bytes are the same if they are equal or, where case is ignored, one ASCII letter in its two cases. Two strings
 /// are the same if they have one length and their bytes are the same, one by one; where case counts they are the same
@@ -166,32 +162,6 @@ pub fn text_closure_exchanges<D, F: FnMut(&Match, &str, &mut D) -> bool>(_closur
 pub fn settled_begins_whole()
     ensures { (built : Built) (write : Occurrence → List ℕ → List ℕ) (bytes more : List ℕ)
         → SettledBegins built write bytes more }
-{}
-
-/// A replacement in a stream by a list leaves the stream with each match exchanged for the text of its pattern, and after a
-/// failure a beginning of what is written for every stream that begins with the bytes that were read. Where each text is what
-/// `f` gives for the length of its pattern, that is what `f` gives for the length of the match.
-///
-/// Call this after a replacement by a list, to say what was written by the stream alone.
-pub fn texts_exchange()
-    ensures texts { (built : Built) (texts : List (List ℕ)) → TextsExchange built texts (text_of texts) }
-    ensures by_length { (built : Built) (texts : List (List ℕ)) (f : ℕ → List ℕ)
-        → texts ≡ map (λ p. f (length p)) built.patterns → TextsExchange built texts (by_length f) }
-{}
-
-/// A closure that writes what `write` gives for each match and its slice, and returns an error only after a beginning of that,
-/// leaves the stream with each match exchanged for it, and after a failure a beginning of what is written for every stream
-/// that begins with the bytes that were read. Call this before a replacement in a stream by such a closure.
-pub fn stream_closure_exchanges<W: Sink, F: FnMut(&Match, &[u8], &mut W) -> io::Result<()>>(
-    _closure: &F,
-)
-    ensures { StreamClosureExchanges W.told F.FnMut }
-{}
-
-/// Where nothing was read and nothing written, a beginning was written: an empty one.
-pub fn unchanged_is_beginning()
-    ensures { (built : Built) (write : Occurrence → List ℕ → List ℕ) (ends : Bool) (reader : Reading) (writer : Writing)
-        → ExchangesBeginning built write ends reader reader writer writer }
 {}
 
 /// Where no pattern is empty, neither is any match.

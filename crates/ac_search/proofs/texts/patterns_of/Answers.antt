@@ -1,10 +1,14 @@
-use Rattle.std.proofs.Common.{rules, tests}
-use Rattle.std.proofs.lemmas.Iterator.{YieldsList-from_slice, YieldsList-from_map_by}
-use Rattle.std.proofs.lemmas.Iterator.Consumers.{map_from_collect}
+use Rattle.std.proofs.Common.{arith}
+use Rattle.std.proofs.lemmas.Grind.{common_steps}
+use Rattle.ac_search.proofs.Words.{texts-push}
 use Rattle.ac_search.proofs.texts.patterns_of.Goals as goal
 
-pub returns : goal.returns
-returns g c =
-    map_from_collect _ c.collect.ensures.ran
-    (YieldsList-from_map_by _ (λ r. r.now) (λ t. t.now) (YieldsList-from_slice c.args.texts.now (cc)) c.map.ensures.closure
-    (λ x r q k. search (rules, tests)))
+-- one text more
+pub loop-text-preserved : goal.loop-text-preserved
+loop-text-preserved g c =
+    record {
+      same = grind (arith, common_steps);
+      texts =
+          texts-push c.loop-text.patterns.items c.push.new.self.items c.as_bytes.result c.in_ok-push.ensures.items
+          c.loop-text.invariant.texts c.as_bytes.ensures.utf8;
+    }

@@ -1,37 +1,143 @@
-//! A caller that covers matches with stars.
-ghost use Rattle.std.specs.Prelude.{◌≡◌, IfOk, None, length};
-ghost use Rattle.ac_search.specs.Built.{find_refusal};
-ghost use Rattle.ac_search.specs.Input.{whole_input};
+//! A filter that writes a stream with stars in place of secrets, by a list and by a closure.
+ghost use Rattle.std.specs.Prelude.{◌≡◌, IfOk, MatchResult, length, map};
+ghost use Rattle.ac_search.specs.Callers.{Redacts, redactor_of, stars};
+ghost use Rattle.ac_search.specs.Device.{WritesAll, WritesBeginning};
+ghost use Rattle.ac_search.specs.Patterns.{bytes_of};
 
-use crate::laws::answers_lie_inside;
+use crate::laws::{closures_write_exchanged, lists_write_exchanged};
+use crate::tests::devices::{ALWAYS, Few, Pieces};
 use crate::tests::same;
-use crate::{AhoCorasick, Input};
+use crate::{AhoCorasick, BuildError, Bytes, Match, MatchKind, Sink, Source, StreamError, Written, write_all};
 use std::alloc::{AllocError, Global};
+use std::io;
 use std::test::Fail;
 
-/// Returns the haystack with a star in place of each byte of a match. It has as many bytes as the haystack.
-fn redacted(alloc: Global, searcher: &AhoCorasick, haystack: &[u8]) -> Result<Vec<u8>, AllocError>
-    requires { find_refusal searcher.now.built (whole_input haystack.now) ≡ None }
-    ensures { IfOk result (λ redacted. length redacted.items ≡ length haystack.now) }
-{
-    let mut redacted = haystack.to_vec(alloc)?;
-    answers_lie_inside(searcher, Input::new(haystack));
-    for m in searcher.find_iter(Input::new(haystack)) {
-        redacted[m.range()].fill(b'*');
+/// Why a redaction has failed.
+#[derive(Drop, Debug)]
+enum RedactError {
+    Build(BuildError),
+    Stream(StreamError),
+}
+
+impl From<AllocError> for RedactError {
+    fn from(_error: AllocError) -> RedactError {
+        RedactError::Build(BuildError::Memory)
     }
-    Ok(redacted)
+}
+
+impl From<BuildError> for RedactError {
+    fn from(error: BuildError) -> RedactError {
+        RedactError::Build(error)
+    }
+}
+
+impl From<StreamError> for RedactError {
+    fn from(error: StreamError) -> RedactError {
+        RedactError::Stream(error)
+    }
+}
+
+/// Returns a searcher for secrets, in either case; where several begin at one byte it takes the longest.
+fn searcher_for(alloc: Global, secrets: &[&[u8]]) -> Result<AhoCorasick, BuildError>
+    ensures { IfOk result (λ searcher. searcher.built ≡ redactor_of (bytes_of secrets.now)) }
+{
+    let mut builder = AhoCorasick::builder();
+    builder
+        .match_kind(MatchKind::LeftmostLongest)
+        .ascii_case_insensitive(true);
+    builder.build(alloc, secrets)
+}
+
+/// Returns as many stars for each secret as it has bytes.
+fn stars_for(alloc: Global, secrets: &[&[u8]]) -> Result<Vec<Vec<u8>>, AllocError>
+    ensures { IfOk result (λ texts. map (λ t. t.items) texts.items ≡ map (λ s. stars (length s)) (bytes_of secrets.now)) }
+{
+    let mut texts = Vec::new(alloc);
+    for secret in secrets {
+        texts.push(vec![in alloc; b'*'; secret.len()]?)?;
+    }
+    Ok(texts)
+}
+
+/// Copies a stream, with as many stars in place of each secret as it has bytes.
+///
+/// # Errors
+/// What was written by then begins what is written for every stream that begins with the bytes that were read.
+fn redact<R: Source, W: Sink>(
+    alloc: Global,
+    secrets: &[&[u8]],
+    reader: &mut R,
+    writer: &mut W,
+) -> Result<(), RedactError>
+    ensures { Redacts R.empty_means_end R.told W.told (bytes_of secrets.now) reader.old writer.old reader.new writer.new result }
+{
+    lists_write_exchanged::<R, W>();
+    let searcher = searcher_for(alloc, secrets)?;
+    let stars = stars_for(alloc, secrets)?;
+    let texts = stars.iter().map(|text| text.as_slice()).collect(alloc)?;
+    searcher.try_stream_replace_all(alloc, reader, writer, &texts)?;
+    Ok(())
+}
+
+/// How many stars are written at once.
+const STARS: [u8; 64] = [b'*'; 64];
+
+/// Writes so many stars.
+fn write_stars<W: Sink>(writer: &mut W, count: usize) -> io::Result<()>
+    ensures { MatchResult result (λ _. WritesAll (W.told writer.old) (W.told writer.new) (stars count))
+        (λ _. WritesBeginning (W.told writer.old) (W.told writer.new) (stars count)) }
+{
+    let mut left = count;
+    while left > 0 {
+        let some = left.min(STARS.len());
+        write_all(writer, &STARS[..some])?;
+        left -= some;
+    }
+    Ok(())
+}
+
+/// Does what `redact` does, by a closure: no list of stars is made.
+///
+/// # Errors
+/// As `redact`.
+fn redact_by_calls<R: Source, W: Sink>(
+    alloc: Global,
+    secrets: &[&[u8]],
+    reader: &mut R,
+    writer: &mut W,
+) -> Result<(), RedactError>
+    ensures { Redacts R.empty_means_end R.told W.told (bytes_of secrets.now) reader.old writer.old reader.new writer.new result }
+{
+    let stars = |_: &Match, secret: &[u8], writer: &mut W| write_stars(writer, secret.len());
+    closures_write_exchanged::<R, W, _>(&stars);
+    let searcher = searcher_for(alloc, secrets)?;
+    searcher.try_stream_replace_all_with(alloc, reader, writer, stars)?;
+    Ok(())
+}
+
+const SECRETS: &[&[u8]] = &[b"secret", b"password", b"pass"];
+
+#[test]
+fn secrets_are_redacted(rt: HostRuntime) -> Result<(), Fail> {
+    let text = b"a Secret password, secretly passed on";
+    let wanted = b"a ****** ********, ******ly ****ed on";
+    let mut writer = Written::new(rt.alloc());
+    let ended = redact(rt.alloc(), SECRETS, &mut Bytes::new(text), &mut writer);
+    let mut other = Written::new(rt.alloc());
+    let mut reader = Pieces::new(text, 1, ALWAYS);
+    let again = redact_by_calls(rt.alloc(), SECRETS, &mut reader, &mut other);
+    same(&rt, (ended.is_ok(), again.is_ok()), (true, true));
+    same(&rt, (writer.bytes(), other.bytes()), (wanted.as_slice(), wanted.as_slice()));
+    Ok(())
 }
 
 #[test]
-fn matches_are_redacted(rt: HostRuntime) -> Result<(), Fail> {
-    let searcher = AhoCorasick::new(rt.alloc(), &[b"secret", b"password"])?;
-    let found = redacted(rt.alloc(), &searcher, b"a secret password, secretly")?;
-    same(
-        &rt,
-        found.as_slice(),
-        b"a ****** ********, ******ly".as_slice(),
-    );
-    let none = redacted(rt.alloc(), &searcher, b"nothing")?;
-    same(&rt, none.as_slice(), b"nothing".as_slice());
+fn nothing_leaks_at_a_failure(rt: HostRuntime) -> Result<(), Fail> {
+    // the sixteenth byte isn't read: "passwor" may still be a password
+    let mut writer = Written::new(rt.alloc());
+    let mut reader = Pieces::new(b"a secret passwords", 1, 16);
+    let ended = redact(rt.alloc(), SECRETS, &mut reader, &mut writer);
+    same(&rt, ended.is_err(), true);
+    same(&rt, writer.bytes(), b"a ****** ".as_slice());
     Ok(())
 }
