@@ -13,7 +13,7 @@ use Rattle.ac_util.specs.declared.device.WriteError.{WriteError}
 use Rattle.ac_util.specs.Prelude.{Built, Calls, exchanged_from, FailsToRead, LiesIn, Occurrence, Reading, ReplacementSteps, Replacing, StreamError, Turn, stream_result, whole_input}
 use Rattle.ac_util.specs.Built.{has_empty, stream_refusal}
 use Rattle.ac_util.specs.Device.{Writing, WritesAll, WritesBeginning, WritesUntilFailure}
-use Rattle.ac_util.specs.Stream.{AlwaysWritesOut, answer_of_result, by_length, exchanged_to, ExchangesAll, ExchangesBeginning, FailsToReplace, FailsToReplaceWith, IsSettled, IsSettledBy, ReplacesStreamWith, stream_exchanged, text_of, WritesPiece}
+use Rattle.ac_util.specs.Stream.{AlwaysWritesOut, answer_of_result, by_length, exchanged_to, ExchangesAll, ExchangesBeginning, FailsToReplace, FailsToReplaceWith, IsSettled, IsSettledBy, ReplacesStream, ReplacesStreamWith, stream_exchanged, text_of, WritesPiece}
 use Rattle.ac_util.proofs.Devices.{writes-join}
 use Rattle.ac_util.proofs.Lying.{walk_result-lie}
 use Rattle.ac_util.proofs.ReplacedCuts.{settled-begins}
