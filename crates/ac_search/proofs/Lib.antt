@@ -5,3 +5,5 @@ pub mod InOrder
 pub mod StreamCounts
 pub mod Words
 pub mod StreamsWritten
+pub mod TokenLemmas
+pub mod LabelCounts

@@ -1,5 +1,5 @@
 -- What the callers in `src/tests/callers` are to do. No contract of the library cites these.
-use Rattle.std.specs.Prelude.{◌≡◌, ℕ, ◌+◌, ◌<◌, Bool, true, List, [], ◌∷◌, Option, None, Some, Result, filter_map, length, option_map, replicate, slice_range}
+use Rattle.std.specs.Prelude.{◌≡◌, ℕ, ◌+◌, ◌<◌, ◌==◌, Bool, false, true, List, [], ◌∷◌, ◌++◌, Option, None, Some, Result, count_by, filter_map, get_or, length, option_map, replicate, slice_range}
 use Rattle.ac_util.specs.Built.{Built}
 use Rattle.ac_util.specs.Device.{Reading, Writing}
 use Rattle.ac_util.specs.Occurrence.{Occurrence, occurrence}
@@ -7,7 +7,6 @@ use Rattle.ac_util.specs.Stream.{by_length}
 use Rattle.ac_util.specs.declared.search.MatchKind.TheVariants.{LeftmostLongest}
 use Rattle.ac_util.specs.declared.search.StartKind.TheVariants.{Unanchored}
 use Rattle.ac_search.specs.Alike.{WritesExchanged}
-use Rattle.ac_search.specs.declared.tests.callers.tokenizer.Token.{Token}
 
 -- as many stars
 abbrev pub stars : ℕ → List ℕ
@@ -25,22 +24,39 @@ abbrev pub Redacts : {R W E : Type 0} → Bool → (R → Reading) → (W → Wr
 Redacts ends reads writes secrets reader writer new_reader new_writer result =
     WritesExchanged ends reads writes (redactor_of secrets) (by_length stars) reader writer new_reader new_writer result
 
+-- a token as a caller sees it: the number of its word, if it is one, where it starts, and its bytes
+pub record Piece : Type 0 where
+  pub word : Option ℕ
+  pub start : ℕ
+  pub text : List ℕ
+
 -- the tokens are a text from one place to another: each starts where the one before it ends, has the bytes that stand there, and
 -- isn't empty
-abbrev pub Covers : List ℕ → ℕ → ℕ → List Token → Type 0
+abbrev pub Covers : List ℕ → ℕ → ℕ → List Piece → Type 0
 Covers text from to [] = from ≡ to
 Covers text from to (t ∷ ts) =
-    (t.start ≡ from) × (t.text.now ≡ slice_range text from (from + length t.text.now)) × (0 < length t.text.now)
-    × Covers text (from + length t.text.now) to ts
+    (t.start ≡ from) × (t.text ≡ slice_range text from (from + length t.text)) × (0 < length t.text)
+    × Covers text (from + length t.text) to ts
 
 -- a token that is a word, as the match that it is
-abbrev pub word_at : Token → Option Occurrence
-word_at t = option_map (λ w. occurrence w t.start (t.start + length t.text.now)) t.word
+abbrev pub word_at : Piece → Option Occurrence
+word_at t = option_map (λ w. occurrence w t.start (t.start + length t.text)) t.word
 
 -- those of all tokens
-abbrev pub words_in : List Token → List Occurrence
+abbrev pub words_in : List Piece → List Occurrence
 words_in tokens = filter_map word_at tokens
+
+-- what stands from one place of a text to another was added to its tokens, unless that is empty
+pub record Adds (text : List ℕ) (word : Option ℕ) (from to : ℕ) (old new : List Piece) : Type 0 where
+  pub covers : (begin : ℕ) → Covers text begin from old → Covers text begin to new
+  pub gap : word ≡ None → words_in new ≡ words_in old
+  pub found : (w : ℕ) → word ≡ Some w → from < to → words_in new ≡ words_in old ++ occurrence w from to ∷ []
 
 -- what a tokenizer of these words searches
 abbrev pub tokenizer_of : List (List ℕ) → Built
 tokenizer_of words = record (redactor_of words) { ignores_case = false }
+
+-- there is a count for each of so many patterns: how many of the matches are its own
+pub record CountsEach (patterns : ℕ) (counts : List ℕ) (ms : List Occurrence) : Type 0 where
+  pub whole : length counts ≡ patterns
+  pub each : (i d : ℕ) → i < patterns → get_or counts i d ≡ count_by (λ m. m.pattern == i) ms

@@ -21,11 +21,11 @@ pub use ac_util::laws::{
     closure_exchanges, defaults_are_stated, earliest_is_standard, equal_values_hash_equally,
     errors_compare_by_their_fields, greatest_number_is_stated, listing_goes_on, listing_is_exact,
     matches_are_not_empty, matches_cut_no_character, matches_lie_inside,
-    numbers_compare_as_numbers, only_the_span_counts, pick_comes_first, sameness_is_by_letter,
-    settled_begins_whole, settled_stays, standard_holds_back, steps_replace, stream_goes_on,
-    strides_have_room, tests_decide, text_closure_exchanges, values_compare_by_their_fields,
-    values_hash_by_their_fields, walk_goes_on, walk_has_beginnings, walk_is_in_order,
-    walk_is_short,
+    numbers_compare_as_numbers, only_the_span_counts, pick_comes_first, pieces_join,
+    sameness_is_by_letter, settled_begins_whole, settled_stays, standard_holds_back, steps_replace,
+    stream_goes_on, strides_have_room, tests_decide, text_closure_exchanges,
+    values_compare_by_their_fields, values_hash_by_their_fields, walk_goes_on, walk_has_beginnings,
+    walk_is_in_order, walk_is_short,
 };
 use ac_util::search::{Anchored, Input, Match, StartKind};
 use std::alloc::Allocator;

@@ -23,7 +23,7 @@ begins-whole : (a b : Writing) (bytes : List ℕ) → WritesAll a b bytes → Wr
 begins-whole a b bytes all = record { part = bytes; rest = []; whole = sym (append-nil bytes); moved = all.moved }
 
 -- so is what was written before a write has failed
-begins-failed : (a b : Writing) (bytes : List ℕ) (e : WriteError) → WritesUntilFailure a b bytes e → WritesBeginning a b bytes
+pub begins-failed : (a b : Writing) (bytes : List ℕ) (e : WriteError) → WritesUntilFailure a b bytes e → WritesBeginning a b bytes
 begins-failed a b bytes e fails =
     let some = fails.some in record {
       part = some.part;
@@ -35,7 +35,7 @@ begins-failed a b bytes e fails =
     }
 
 -- a beginning of some bytes is one of more
-begins-longer : (a b : Writing) (xs ys : List ℕ) → WritesBeginning a b xs → WritesBeginning a b (xs ++ ys)
+pub begins-longer : (a b : Writing) (xs ys : List ℕ) → WritesBeginning a b xs → WritesBeginning a b (xs ++ ys)
 begins-longer a b xs ys begun = record {
   part = begun.part;
   rest = begun.rest ++ ys;
@@ -44,7 +44,7 @@ begins-longer a b xs ys begun = record {
 }
 
 -- bytes were written, and then a beginning of others
-begins-join : (a b c : Writing) (xs ys : List ℕ) → WritesAll a b xs → WritesBeginning b c ys → WritesBeginning a c (xs ++ ys)
+pub begins-join : (a b c : Writing) (xs ys : List ℕ) → WritesAll a b xs → WritesBeginning b c ys → WritesBeginning a c (xs ++ ys)
 begins-join a b c xs ys all begun = record {
   part = xs ++ begun.part;
   rest = begun.rest;

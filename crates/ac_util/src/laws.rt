@@ -7,7 +7,7 @@ pub mod values;
 pub use answers::{
     closure_exchanges, earliest_is_standard, listing_goes_on, listing_is_exact,
     matches_are_not_empty, matches_cut_no_character, matches_lie_inside, only_the_span_counts,
-    pick_comes_first, sameness_is_by_letter, settled_begins_whole, settled_stays,
+    pick_comes_first, pieces_join, sameness_is_by_letter, settled_begins_whole, settled_stays,
     standard_holds_back, steps_replace, stream_goes_on, tests_decide, text_closure_exchanges,
     walk_goes_on, walk_has_beginnings, walk_is_in_order, walk_is_short,
 };

@@ -1,9 +1,11 @@
 //! For users: what follows from the definitions of what a search answers.
-ghost use Rattle.std.specs.Prelude.{◌≡◌, ℕ, ◌<◌, ◌≤◌, ◌↔◌, ◌⊎◌, Bool, true, false, List, [], Contains, AllPairs, length, slice_get, Option, None, Some};
+ghost use Rattle.std.specs.Prelude.{◌≡◌, ℕ, ◌++◌, ◌<◌, ◌≤◌, ◌↔◌, ◌⊎◌, Bool, true, false, List, [], Contains, AllPairs, length, slice_get, Option, None, Some};
 ghost use Rattle.std.specs.Str.{IsCharBoundary};
 ghost use Rattle.ac_util.specs.declared.search.MatchKind.{MatchKind};
 ghost use Rattle.ac_util.specs.declared.search.MatchKind.TheVariants.{Standard};
 ghost use Rattle.ac_util.specs.Built.{Built, find_result, has_empty, LiesIn, search_in, walk_result};
+ghost use Rattle.ac_util.specs.Device.{Writing, WritesAll, WritesBeginning, WritesUntilFailure};
+ghost use Rattle.ac_util.specs.declared.device.WriteError.{WriteError};
 ghost use Rattle.ac_util.specs.Input.{InputView};
 ghost use Rattle.ac_util.specs.Laws.{AllLieIn, AnswerLiesIn, AreAlike, CutsNoCharacter, Decides, EarliestIsStandard, HoldsBack, IsInListing, IsPastListing, MatchesStay, SettledBegins, SettledStays, StayingIsDecided, StepsKeep, StepsLeaveBeginning, StepsLeaveWhole, WalkBegins, WalkEnds, WalkGoesOn, matched_pattern, most_matches};
 ghost use Rattle.ac_util.specs.Listing.{all, IsBefore, item_at};
@@ -168,4 +170,14 @@ pub fn settled_begins_whole()
 pub fn matches_are_not_empty()
     ensures { (built : Built) (input : InputView) (m : Occurrence) → has_empty built ≡ false → LiesIn built input m
         → m.start < m.end }
+{}
+
+/// Pieces that are written one after another are written as one: all of them, or a beginning where the last one fails. Call
+/// this in a function that writes in several pieces, as a closure may that replaces matches of a stream.
+pub fn pieces_join()
+    ensures whole { (a b c : Writing) (xs ys : List ℕ) → WritesAll a b xs → WritesAll b c ys → WritesAll a c (xs ++ ys) }
+    ensures begun { (a b c : Writing) (xs ys : List ℕ) → WritesAll a b xs → WritesBeginning b c ys
+        → WritesBeginning a c (xs ++ ys) }
+    ensures longer { (a b : Writing) (xs ys : List ℕ) → WritesBeginning a b xs → WritesBeginning a b (xs ++ ys) }
+    ensures failed { (a b : Writing) (xs : List ℕ) (e : WriteError) → WritesUntilFailure a b xs e → WritesBeginning a b xs }
 {}

@@ -1,39 +1,43 @@
-//! A caller that counts the matches of a log as far as it can be read.
+//! A caller that counts the matches of each pattern in a log, as far as it can be read.
 ghost use Rattle.std.specs.Prelude.{◌≡◌, IfOk, List, length, ℕ};
 ghost use Rattle.std.specs.Io.KnownBytes.{Consumes};
+ghost use Rattle.ac_search.specs.Callers.{CountsEach};
 ghost use Rattle.ac_search.specs.Stream.{stream_result};
 
+use crate::laws::matches_lie_inside;
 use crate::tests::devices::{ALWAYS, Pieces};
 use crate::tests::same;
 use crate::{AhoCorasick, MatchKind, Source, StreamError};
 use std::alloc::Global;
 use std::test::Fail;
 
-/// How many matches a log has, and whether a read of it has failed after them.
+/// How many matches each pattern has in a log, and whether a read of it has failed after them.
 #[derive(Drop)]
-struct Count {
-    matches: usize,
+struct Counts {
+    matches: Vec<usize>,
     failed: bool,
 }
 
-/// Returns how many matches the bytes have that were read, up to the end of the log or the first read that failed.
-fn count_matches<R: Source>(
+/// Returns how often each pattern matches in the bytes that were read, up to the end of the log or the first read that
+/// failed.
+fn counts_of<R: Source>(
     alloc: Global,
     searcher: &AhoCorasick,
     log: &mut R,
-) -> Result<Count, StreamError>
+) -> Result<Counts, StreamError>
     requires { searcher.now.built.kind ≡ MatchKind.Standard }
-    ensures { IfOk result (λ count. (bytes : List ℕ)
+    ensures { IfOk result (λ counts. (bytes : List ℕ)
         × Consumes (R.told log.old).left (R.told log.new).left bytes
-        × (count.matches ≡ length (stream_result searcher.now.built bytes))) }
+        × CountsEach (length searcher.now.built.patterns) counts.matches.items (stream_result searcher.now.built bytes)) }
 {
+    matches_lie_inside();
     let mut finder = searcher.try_stream_finder(alloc)?;
-    let mut matches = 0;
+    let mut matches = vec![in alloc; 0usize; searcher.patterns_len()]?;
     while let Some(item) = finder.next(log) {
         match item {
-            Ok(_) => matches += 1,
+            Ok(m) => matches[m.pattern().as_usize()] += 1,
             Err(StreamError::Io(_)) => {
-                return Ok(Count {
+                return Ok(Counts {
                     matches,
                     failed: true,
                 });
@@ -41,25 +45,29 @@ fn count_matches<R: Source>(
             Err(e) => return Err(e),
         }
     }
-    Ok(Count {
+    Ok(Counts {
         matches,
         failed: false,
     })
 }
 
 #[test]
-fn matches_are_counted_up_to_a_failure(rt: HostRuntime) -> Result<(), Fail> {
-    let searcher = AhoCorasick::new(rt.alloc(), &[b"error", b"warning"])?;
-    let log = b"error: no disk, warning: slow";
-    for (most, good, matches, failed) in [
-        (1, ALWAYS, 2, false),
-        (1, 4, 0, true),
-        (1, 5, 1, true),
-        (7, 3, 1, true),
+fn labels_are_counted_up_to_a_failure(rt: HostRuntime) -> Result<(), Fail> {
+    let searcher = AhoCorasick::new(rt.alloc(), &[b"error", b"warning", b"note"])?;
+    let log = b"error: no disk, warning: slow, error: again";
+    for (most, good, wanted, failed) in [
+        (1, ALWAYS, [2, 1, 0], false),
+        (1, 4, [0, 0, 0], true),
+        (1, 5, [1, 0, 0], true),
+        (7, 4, [1, 1, 0], true),
     ] {
         let mut reader = Pieces::new(log, most, good);
-        let count = count_matches(rt.alloc(), &searcher, &mut reader)?;
-        same(&rt, (count.matches, count.failed), (matches, failed));
+        let counts = counts_of(rt.alloc(), &searcher, &mut reader)?;
+        same(
+            &rt,
+            (counts.matches.as_slice(), counts.failed),
+            (wanted.as_slice(), failed),
+        );
     }
     Ok(())
 }

@@ -7,7 +7,9 @@ ghost use Rattle.ac_search.specs.Patterns.{bytes_of};
 use crate::laws::{closures_write_exchanged, lists_write_exchanged};
 use crate::tests::devices::{ALWAYS, Few, Pieces};
 use crate::tests::same;
-use crate::{AhoCorasick, BuildError, Bytes, Match, MatchKind, Sink, Source, StreamError, Written, write_all};
+use crate::{
+    AhoCorasick, BuildError, Bytes, Match, MatchKind, Sink, Source, StreamError, Written, write_all,
+};
 use std::alloc::{AllocError, Global};
 use std::io;
 use std::test::Fail;
@@ -59,6 +61,25 @@ fn stars_for(alloc: Global, secrets: &[&[u8]]) -> Result<Vec<Vec<u8>>, AllocErro
     Ok(texts)
 }
 
+/// Writes a stream with as many stars in place of each secret, by a searcher for the secrets and a list of stars.
+///
+/// # Errors
+/// What was written by then begins what is written for every stream that begins with the bytes that were read.
+fn write_redacted<R: Source, W: Sink>(
+    alloc: Global,
+    searcher: &AhoCorasick,
+    texts: &[&[u8]],
+    reader: &mut R,
+    writer: &mut W,
+) -> Result<(), StreamError>
+    requires searcher { searcher.now.built ≡ redactor_of searcher.now.built.patterns }
+    requires texts { bytes_of texts.now ≡ map (λ s. stars (length s)) searcher.now.built.patterns }
+    ensures { Redacts R.empty_means_end R.told W.told searcher.now.built.patterns reader.old writer.old reader.new writer.new result }
+{
+    lists_write_exchanged::<R, W>();
+    searcher.try_stream_replace_all(alloc, reader, writer, texts)
+}
+
 /// Copies a stream, with as many stars in place of each secret as it has bytes.
 ///
 /// # Errors
@@ -74,8 +95,8 @@ fn redact<R: Source, W: Sink>(
     lists_write_exchanged::<R, W>();
     let searcher = searcher_for(alloc, secrets)?;
     let stars = stars_for(alloc, secrets)?;
-    let texts = stars.iter().map(|text| text.as_slice()).collect(alloc)?;
-    searcher.try_stream_replace_all(alloc, reader, writer, &texts)?;
+    let texts: Vec<&[u8]> = stars.iter().map(|text| text.as_slice()).collect(alloc)?;
+    write_redacted(alloc, &searcher, &texts, reader, writer)?;
     Ok(())
 }
 
@@ -127,7 +148,11 @@ fn secrets_are_redacted(rt: HostRuntime) -> Result<(), Fail> {
     let mut reader = Pieces::new(text, 1, ALWAYS);
     let again = redact_by_calls(rt.alloc(), SECRETS, &mut reader, &mut other);
     same(&rt, (ended.is_ok(), again.is_ok()), (true, true));
-    same(&rt, (writer.bytes(), other.bytes()), (wanted.as_slice(), wanted.as_slice()));
+    same(
+        &rt,
+        (writer.bytes(), other.bytes()),
+        (wanted.as_slice(), wanted.as_slice()),
+    );
     Ok(())
 }
 
