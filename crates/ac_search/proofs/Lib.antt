@@ -7,3 +7,4 @@ pub mod Words
 pub mod StreamsWritten
 pub mod TokenLemmas
 pub mod LabelCounts
+pub mod Tokenizing

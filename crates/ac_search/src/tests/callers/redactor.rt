@@ -4,7 +4,7 @@ ghost use Rattle.ac_search.specs.Callers.{Redacts, redactor_of, stars};
 ghost use Rattle.ac_search.specs.Device.{WritesAll, WritesBeginning};
 ghost use Rattle.ac_search.specs.Patterns.{bytes_of};
 
-use crate::laws::{closures_write_exchanged, lists_write_exchanged};
+use crate::laws::{closures_write_exchanged, lists_write_exchanged, pieces_join};
 use crate::tests::devices::{ALWAYS, Few, Pieces};
 use crate::tests::same;
 use crate::{
@@ -61,6 +61,17 @@ fn stars_for(alloc: Global, secrets: &[&[u8]]) -> Result<Vec<Vec<u8>>, AllocErro
     Ok(texts)
 }
 
+/// Returns the texts as slices.
+fn slices_of(alloc: Global, texts: &[Vec<u8>]) -> Result<Vec<&[u8]>, AllocError>
+    ensures { IfOk result (λ slices. bytes_of slices.items ≡ map (λ t. t.items) texts.now) }
+{
+    let mut slices = Vec::new(alloc);
+    for text in texts {
+        slices.push(text.as_slice())?;
+    }
+    Ok(slices)
+}
+
 /// Writes a stream with as many stars in place of each secret, by a searcher for the secrets and a list of stars.
 ///
 /// # Errors
@@ -95,29 +106,44 @@ fn redact<R: Source, W: Sink>(
     lists_write_exchanged::<R, W>();
     let searcher = searcher_for(alloc, secrets)?;
     let stars = stars_for(alloc, secrets)?;
-    let texts: Vec<&[u8]> = stars.iter().map(|text| text.as_slice()).collect(alloc)?;
+    let texts = slices_of(alloc, &stars)?;
     write_redacted(alloc, &searcher, &texts, reader, writer)?;
     Ok(())
 }
-
-/// How many stars are written at once.
-const STARS: [u8; 64] = [b'*'; 64];
 
 /// Writes so many stars.
 fn write_stars<W: Sink>(writer: &mut W, count: usize) -> io::Result<()>
     ensures { MatchResult result (λ _. WritesAll (W.told writer.old) (W.told writer.new) (stars count))
         (λ _. WritesBeginning (W.told writer.old) (W.told writer.new) (stars count)) }
 {
+    pieces_join();
     let mut left = count;
     while left > 0 {
-        let some = left.min(STARS.len());
-        write_all(writer, &STARS[..some])?;
-        left -= some;
+        write_all(writer, b"*")?;
+        left -= 1;
     }
     Ok(())
 }
 
-/// Does what `redact` does, by a closure: no list of stars is made.
+/// Does what `write_redacted` does, by a closure: no list of stars is made.
+///
+/// # Errors
+/// As `write_redacted`.
+fn write_redacted_by_calls<R: Source, W: Sink>(
+    alloc: Global,
+    searcher: &AhoCorasick,
+    reader: &mut R,
+    writer: &mut W,
+) -> Result<(), StreamError>
+    requires searcher { searcher.now.built ≡ redactor_of searcher.now.built.patterns }
+    ensures { Redacts R.empty_means_end R.told W.told searcher.now.built.patterns reader.old writer.old reader.new writer.new result }
+{
+    let stars = |_: &Match, secret: &[u8], writer: &mut W| write_stars(writer, secret.len());
+    closures_write_exchanged::<R, W, _>(&stars);
+    searcher.try_stream_replace_all_with(alloc, reader, writer, stars)
+}
+
+/// Does what `redact` does, by a closure.
 ///
 /// # Errors
 /// As `redact`.
@@ -129,10 +155,9 @@ fn redact_by_calls<R: Source, W: Sink>(
 ) -> Result<(), RedactError>
     ensures { Redacts R.empty_means_end R.told W.told (bytes_of secrets.now) reader.old writer.old reader.new writer.new result }
 {
-    let stars = |_: &Match, secret: &[u8], writer: &mut W| write_stars(writer, secret.len());
-    closures_write_exchanged::<R, W, _>(&stars);
+    lists_write_exchanged::<R, W>();
     let searcher = searcher_for(alloc, secrets)?;
-    searcher.try_stream_replace_all_with(alloc, reader, writer, stars)?;
+    write_redacted_by_calls(alloc, &searcher, reader, writer)?;
     Ok(())
 }
 

@@ -1,5 +1,5 @@
 //! A tokenizer: the words of a vocabulary that is made at run time, and what stands between them.
-ghost use Rattle.std.specs.Prelude.{◌≡◌, ◌≤◌, IfOk};
+ghost use Rattle.std.specs.Prelude.{◌≡◌, ◌≤◌, IfOk, length};
 ghost use Rattle.std.specs.Str.{IsCharBoundary};
 ghost use Rattle.ac_search.specs.Built.{walk_result};
 ghost use Rattle.ac_search.specs.Callers.{Adds, Covers, tokenizer_of, words_in};
@@ -74,59 +74,83 @@ fn push<'t>(
     Ok(())
 }
 
-/// Returns the tokens of a text: the words of the walk, where the longest of several that begin at one byte is taken, and what
-/// stands between them.
-///
-/// # Errors
-/// `EmptyWord` where a word is empty; else those of the build.
-fn tokens_of<'t>(
-    alloc: Global,
-    vocabulary: &[&str],
-    text: &'t str,
-) -> Result<Vec<Token<'t>>, TokenizeError>
-    ensures covers { IfOk result (λ tokens. Covers text.now 0 (length text.now) tokens.items) }
-    ensures words { IfOk result (λ tokens. words_in tokens.items
-        ≡ walk_result (tokenizer_of (bytes_of vocabulary.now)) (whole_input text.now)) }
-{
-    let patterns = patterns_of(alloc, vocabulary)?;
-    let mut builder = AhoCorasick::builder();
-    builder.match_kind(MatchKind::LeftmostLongest);
-    let searcher = builder.build(alloc, &patterns)?;
-    if searcher.min_pattern_len() == 0 {
-        return Err(TokenizeError::EmptyWord);
+/// A searcher for the words of a vocabulary, each a text that isn't empty.
+#[derive(Drop)]
+struct Tokenizer {
+    searcher: AhoCorasick,
+}
+
+impl Model for Tokenizer {
+    ghost use Rattle.std.specs.Prelude.{◌≡◌, All, false};
+    ghost use Rattle.std.specs.Str.{IsUtf8};
+    ghost use Rattle.ac_search.specs.Built.{Built, has_empty};
+    ghost use Rattle.ac_search.specs.Callers.{tokenizer_of};
+
+    ghost Value = { Built };
+
+    ghost view = { λ t. t.searcher.built };
+
+    ghost invariant = { λ t. record {
+      built : t.searcher.built ≡ tokenizer_of t.searcher.built.patterns;
+      texts : All IsUtf8 t.searcher.built.patterns;
+      nonempty : has_empty t.searcher.built ≡ false;
+    } };
+}
+
+impl Tokenizer {
+    /// Returns a tokenizer. Where several words begin at one byte it takes the longest.
+    ///
+    /// # Errors
+    /// `EmptyWord` where a word is empty; else those of the build.
+    fn new(alloc: Global, vocabulary: &[&str]) -> Result<Tokenizer, TokenizeError>
+        ensures { IfOk result (λ tokenizer. tokenizer ≡ tokenizer_of (bytes_of vocabulary.now)) }
+    {
+        let patterns = patterns_of(alloc, vocabulary)?;
+        let mut builder = AhoCorasick::builder();
+        builder.match_kind(MatchKind::LeftmostLongest);
+        let searcher = builder.build(alloc, &patterns)?;
+        shortest_is_empty();
+        if searcher.min_pattern_len() == 0 {
+            return Err(TokenizeError::EmptyWord);
+        }
+        Ok(Tokenizer { searcher })
     }
-    let input = Input::of_text(text);
-    shortest_is_empty();
-    nonempty_texts_are_texts(&searcher);
-    answers_cut_no_character(&searcher, input);
-    matches_stand_apart(&searcher, input);
-    let mut tokens = Vec::new(alloc);
-    let mut end = 0;
-    for m in searcher.find_iter(input) {
-        push(&mut tokens, text, None, end, m.start())?;
-        push(
-            &mut tokens,
-            text,
-            Some(m.pattern().as_usize()),
-            m.start(),
-            m.end(),
-        )?;
-        end = m.end();
+
+    /// Returns the tokens of a text: the words of the walk, and what stands between them.
+    fn tokens<'t>(&self, alloc: Global, text: &'t str) -> Result<Vec<Token<'t>>, AllocError>
+        ensures covers { IfOk result (λ tokens. Covers text.now 0 (length text.now) tokens.items) }
+        ensures words { IfOk result (λ tokens. words_in tokens.items ≡ walk_result self.now (whole_input text.now)) }
+    {
+        let searcher = &self.searcher;
+        let input = Input::of_text(text);
+        nonempty_texts_are_texts(searcher);
+        answers_cut_no_character(searcher, input);
+        matches_stand_apart(searcher, input);
+        let mut tokens = Vec::new(alloc);
+        let mut end = 0;
+        for m in searcher.find_iter(input) {
+            push(&mut tokens, text, None, end, m.start())?;
+            push(
+                &mut tokens,
+                text,
+                Some(m.pattern().as_usize()),
+                m.start(),
+                m.end(),
+            )?;
+            end = m.end();
+        }
+        push(&mut tokens, text, None, end, text.len())?;
+        Ok(tokens)
     }
-    push(&mut tokens, text, None, end, text.len())?;
-    Ok(tokens)
 }
 
 #[test]
 fn tokens_are_words_and_gaps(rt: HostRuntime) -> Result<(), Fail> {
     let mut found = Vec::new(rt.alloc());
-    match tokens_of(rt.alloc(), &["un", "unhappy", "Käfer"], "unhappy Käfer, un") {
-        Ok(tokens) => {
-            for token in &tokens {
-                found.push((token.word, token.start, token.text))?;
-            }
+    if let Ok(tokenizer) = Tokenizer::new(rt.alloc(), &["un", "unhappy", "Käfer"]) {
+        for token in tokenizer.tokens(rt.alloc(), "unhappy Käfer, un")? {
+            found.push((token.word, token.start, token.text))?;
         }
-        Err(_) => {}
     }
     let wanted: [(Option<usize>, usize, &str); 5] = [
         (Some(1), 0, "unhappy"),
@@ -136,7 +160,7 @@ fn tokens_are_words_and_gaps(rt: HostRuntime) -> Result<(), Fail> {
         (Some(0), 16, "un"),
     ];
     same(&rt, found.as_slice(), wanted.as_slice());
-    let refused = tokens_of(rt.alloc(), &["a", ""], "a");
+    let refused = Tokenizer::new(rt.alloc(), &["a", ""]);
     same(&rt, matches!(refused, Err(TokenizeError::EmptyWord)), true);
     Ok(())
 }
