@@ -1,5 +1,5 @@
 -- Counting the matches of each pattern, one match after another.
-use Rattle.std.proofs.Common.{◌≡◌, ◌≢◌, ℕ, ◌+◌, ◌<◌, ◌≤◌, ◌==◌, true, false, List, [], length, refl, ap, sym, ◌∙◌, arith, Option, Some, get_or, set, take, replicate, slice_get}
+use Rattle.std.proofs.Common.{◌≡◌, ◌≢◌, ℕ, ◌+◌, ◌<◌, ◌≤◌, ◌==◌, Bool, true, false, List, [], length, refl, ap, sym, ◌∙◌, arith, Option, Some, get_or, set, take, replicate, slice_get}
 use Rattle.std.specs.List.{count_by}
 use Rattle.std.proofs.lemmas.Bool.{eqb-false, eqb-true}
 use Rattle.std.proofs.lemmas.Grind.{common_steps}
