@@ -1,0 +1,277 @@
+//! The searcher and its builder.
+use crate::error::{BuildError, MatchError};
+use crate::ffi::{self, Facts, Handle};
+use crate::iter::{FindIter, FindOverlappingIter};
+use crate::search::{Input, Match, MatchKind, StartKind};
+use std::fmt;
+use std::rc::Rc;
+
+/// Which engine serves a searcher. It changes no answer.
+#[non_exhaustive]
+#[derive(Clone, Copy, Debug, PartialEq, Eq)]
+pub enum AhoCorasickKind {
+    /// A trie with failure links, quick to build.
+    NoncontiguousNFA,
+    /// The same packed into words, which takes the least memory.
+    ContiguousNFA,
+    /// A table of all steps, which is the fastest and the largest.
+    DFA,
+}
+
+/// The settings that a searcher is built by.
+#[derive(Clone, Debug)]
+pub struct AhoCorasickBuilder {
+    options: ffi::Options,
+}
+
+impl Default for AhoCorasickBuilder {
+    fn default() -> AhoCorasickBuilder {
+        AhoCorasickBuilder::new()
+    }
+}
+
+impl AhoCorasickBuilder {
+    /// The usual settings: [`MatchKind::Standard`], [`StartKind::Unanchored`], case counts, and the engine is chosen.
+    pub fn new() -> AhoCorasickBuilder {
+        let options = ffi::Options {
+            match_kind: 0,
+            start_kind: 0,
+            engine: 0,
+            ignore_case: 0,
+            prefilter: 1,
+            byte_classes: 1,
+            dense_depth: 2,
+        };
+        AhoCorasickBuilder { options }
+    }
+
+    /// Builds a searcher over patterns, which are copied. An error says that there are too many patterns, that one is too
+    /// long, that there would be too many states, or that there is no memory.
+    pub fn build<I, P>(&self, patterns: I) -> Result<AhoCorasick, BuildError>
+    where
+        I: IntoIterator<Item = P>,
+        P: AsRef<[u8]>,
+    {
+        let (mut bytes, mut ends) = (Vec::new(), Vec::new());
+        for pattern in patterns {
+            bytes.extend_from_slice(pattern.as_ref());
+            ends.push(bytes.len());
+        }
+        let handle = Handle::open(&self.options, &bytes, &ends).map_err(BuildError::of)?;
+        Ok(AhoCorasick { facts: handle.facts(), handle: Rc::new(handle) })
+    }
+
+    /// Sets which of several overlapping occurrences is picked.
+    pub fn match_kind(&mut self, kind: MatchKind) -> &mut AhoCorasickBuilder {
+        self.options.match_kind = match kind {
+            MatchKind::Standard => 0,
+            MatchKind::LeftmostFirst => 1,
+            MatchKind::LeftmostLongest => 2,
+        };
+        self
+    }
+
+    /// Sets which searches are supported.
+    pub fn start_kind(&mut self, kind: StartKind) -> &mut AhoCorasickBuilder {
+        self.options.start_kind = match kind {
+            StartKind::Unanchored => 0,
+            StartKind::Anchored => 1,
+            StartKind::Both => 2,
+        };
+        self
+    }
+
+    /// Sets whether the two cases of an ASCII letter count as one.
+    pub fn ascii_case_insensitive(&mut self, yes: bool) -> &mut AhoCorasickBuilder {
+        self.options.ignore_case = yes.into();
+        self
+    }
+
+    /// Sets the engine; with `None` it is chosen by the number of patterns.
+    pub fn kind(&mut self, kind: Option<AhoCorasickKind>) -> &mut AhoCorasickBuilder {
+        self.options.engine = match kind {
+            None => 0,
+            Some(AhoCorasickKind::NoncontiguousNFA) => 1,
+            Some(AhoCorasickKind::ContiguousNFA) => 2,
+            Some(AhoCorasickKind::DFA) => 3,
+        };
+        self
+    }
+
+    /// Sets whether a fast search for first bytes may skip what can't match. It changes no answer.
+    pub fn prefilter(&mut self, yes: bool) -> &mut AhoCorasickBuilder {
+        self.options.prefilter = yes.into();
+        self
+    }
+
+    /// Sets up to which depth states of the contiguous NFA are dense. It changes no answer.
+    pub fn dense_depth(&mut self, depth: usize) -> &mut AhoCorasickBuilder {
+        self.options.dense_depth = depth;
+        self
+    }
+
+    /// Sets whether bytes that no pattern tells apart share their steps. It changes no answer.
+    pub fn byte_classes(&mut self, yes: bool) -> &mut AhoCorasickBuilder {
+        self.options.byte_classes = yes.into();
+        self
+    }
+}
+
+/// A searcher for many patterns at once. A clone shares it, and costs little.
+///
+/// A searcher stays on its thread:
+///
+/// ```compile_fail,E0277
+/// let searcher = aho_corasick_rattle::AhoCorasick::new(["a"]).unwrap();
+/// std::thread::spawn(move || searcher.is_match("a"));
+/// ```
+///
+/// and so does a reference to it:
+///
+/// ```compile_fail,E0277
+/// let searcher = aho_corasick_rattle::AhoCorasick::new(["a"]).unwrap();
+/// std::thread::scope(|scope| { scope.spawn(|| searcher.is_match("a")); });
+/// ```
+///
+/// What a search gives borrows the searcher and the haystack:
+///
+/// ```compile_fail,E0505
+/// let searcher = aho_corasick_rattle::AhoCorasick::new(["a"]).unwrap();
+/// let mut matches = searcher.find_iter("a");
+/// drop(searcher);
+/// matches.next();
+/// ```
+#[derive(Clone)]
+pub struct AhoCorasick {
+    handle: Rc<Handle>,
+    facts: Facts,
+}
+
+impl AhoCorasick {
+    /// A searcher over patterns by the usual settings.
+    pub fn new<I, P>(patterns: I) -> Result<AhoCorasick, BuildError>
+    where
+        I: IntoIterator<Item = P>,
+        P: AsRef<[u8]>,
+    {
+        AhoCorasickBuilder::new().build(patterns)
+    }
+
+    /// The usual settings, to be changed.
+    pub fn builder() -> AhoCorasickBuilder {
+        AhoCorasickBuilder::new()
+    }
+
+    /// Whether a pattern occurs. Panics where [`AhoCorasick::try_find`] would return an error.
+    pub fn is_match<'h, I: Into<Input<'h>>>(&self, input: I) -> bool {
+        let input = input.into();
+        let answer = self.handle.is_match(input.haystack(), &input.raw_span());
+        self.supported(answer.map_err(|refusal| self.error(refusal))) && !input.is_done()
+    }
+
+    /// The match that is picked. Panics where [`AhoCorasick::try_find`] returns an error.
+    pub fn find<'h, I: Into<Input<'h>>>(&self, input: I) -> Option<Match> {
+        self.supported(self.try_find(input))
+    }
+
+    /// The matches one after another that don't overlap: what is picked, then what is picked behind it, and so on. Panics
+    /// where [`AhoCorasick::try_find_iter`] returns an error.
+    pub fn find_iter<'a, 'h, I: Into<Input<'h>>>(&'a self, input: I) -> FindIter<'a, 'h> {
+        self.supported(self.try_find_iter(input))
+    }
+
+    /// Every occurrence. Panics where [`AhoCorasick::try_find_overlapping_iter`] returns an error.
+    pub fn find_overlapping_iter<'a, 'h, I: Into<Input<'h>>>(&'a self, input: I) -> FindOverlappingIter<'a, 'h> {
+        self.supported(self.try_find_overlapping_iter(input))
+    }
+
+    /// The match that is picked. An error says that the input is anchored, or isn't, and that the start kind doesn't
+    /// support it.
+    pub fn try_find<'h, I: Into<Input<'h>>>(&self, input: I) -> Result<Option<Match>, MatchError> {
+        let input = input.into();
+        let found = self.handle.find(input.haystack(), &input.raw_span()).map_err(|refusal| self.error(refusal))?;
+        Ok(found.filter(|_| !input.is_done()).map(Match::found))
+    }
+
+    /// The matches one after another that don't overlap. Errors are those of [`AhoCorasick::try_find`].
+    pub fn try_find_iter<'a, 'h, I: Into<Input<'h>>>(&'a self, input: I) -> Result<FindIter<'a, 'h>, MatchError> {
+        FindIter::new(&self.handle, &input.into()).map_err(|refusal| self.error(refusal))
+    }
+
+    /// Every occurrence. An error says that the input is anchored, that the start kind doesn't support unanchored searches,
+    /// or that the match kind isn't [`MatchKind::Standard`].
+    pub fn try_find_overlapping_iter<'a, 'h, I: Into<Input<'h>>>(
+        &'a self,
+        input: I,
+    ) -> Result<FindOverlappingIter<'a, 'h>, MatchError> {
+        FindOverlappingIter::new(&self.handle, &input.into()).map_err(|refusal| self.error(refusal))
+    }
+
+    /// The engine that serves.
+    pub fn kind(&self) -> AhoCorasickKind {
+        match self.facts.engine {
+            1 => AhoCorasickKind::NoncontiguousNFA,
+            2 => AhoCorasickKind::ContiguousNFA,
+            _ => AhoCorasickKind::DFA,
+        }
+    }
+
+    /// Which searches are supported.
+    pub fn start_kind(&self) -> StartKind {
+        match self.facts.start_kind {
+            0 => StartKind::Unanchored,
+            1 => StartKind::Anchored,
+            _ => StartKind::Both,
+        }
+    }
+
+    /// Which of several overlapping occurrences is picked.
+    pub fn match_kind(&self) -> MatchKind {
+        match self.facts.match_kind {
+            0 => MatchKind::Standard,
+            1 => MatchKind::LeftmostFirst,
+            _ => MatchKind::LeftmostLongest,
+        }
+    }
+
+    /// The length of the shortest pattern, and `usize::MAX` where there is none.
+    pub fn min_pattern_len(&self) -> usize {
+        self.facts.shortest
+    }
+
+    /// The length of the longest pattern, and 0 where there is none.
+    pub fn max_pattern_len(&self) -> usize {
+        self.facts.longest
+    }
+
+    /// The number of patterns.
+    pub fn patterns_len(&self) -> usize {
+        self.facts.patterns
+    }
+
+    /// How many bytes the searcher takes on the heap, about.
+    pub fn memory_usage(&self) -> usize {
+        self.facts.memory
+    }
+
+    fn error(&self, refusal: ffi::Refusal) -> MatchError {
+        MatchError::of(refusal, self.match_kind())
+    }
+
+    /// What a call without `try_` makes of a refusal: a fault of the program.
+    #[track_caller]
+    pub(crate) fn supported<T>(&self, answer: Result<T, MatchError>) -> T {
+        answer.unwrap_or_else(|error| panic!("{error}"))
+    }
+}
+
+impl fmt::Debug for AhoCorasick {
+    fn fmt(&self, f: &mut fmt::Formatter<'_>) -> fmt::Result {
+        f.debug_struct("AhoCorasick")
+            .field("kind", &self.kind())
+            .field("match_kind", &self.match_kind())
+            .field("start_kind", &self.start_kind())
+            .field("patterns_len", &self.patterns_len())
+            .finish_non_exhaustive()
+    }
+}

@@ -1,0 +1,106 @@
+//! Iterators over the matches of a search, which the library finds in batches.
+#[cfg(doc)]
+use crate::AhoCorasick;
+use crate::ffi;
+use crate::ffi::{Cursor, Handle, Refusal};
+use crate::search::{Input, Match};
+
+/// How many matches are looked for at once: enough that a call costs little beside them.
+const BATCH: usize = 128;
+
+/// One of the two calls of the library that fill a batch.
+type Fill = fn(&Handle, &[u8], &ffi::Span, &mut Cursor, &mut [ffi::Match]) -> Result<usize, Refusal>;
+
+#[derive(Clone, Debug)]
+struct Batches<'a, 'h> {
+    handle: &'a Handle,
+    fill: Fill,
+    haystack: &'h [u8],
+    span: ffi::Span,
+    cursor: Cursor,
+    /// Whether there may be matches behind those of the batch.
+    goes_on: bool,
+    taken: usize,
+    filled: usize,
+    batch: [ffi::Match; BATCH],
+}
+
+impl<'a, 'h> Batches<'a, 'h> {
+    /// A search of which nothing was found yet, if it isn't refused.
+    fn new(handle: &'a Handle, fill: Fill, input: &Input<'h>) -> Result<Batches<'a, 'h>, Refusal> {
+        let (haystack, span) = (input.haystack(), input.raw_span());
+        let mut cursor = Cursor { at: span.start, given: 0 };
+        fill(handle, haystack, &span, &mut cursor, &mut [])?;
+        Ok(Batches {
+            handle,
+            fill,
+            haystack,
+            span,
+            cursor,
+            goes_on: !input.is_done(),
+            taken: 0,
+            filled: 0,
+            batch: [ffi::Match::default(); BATCH],
+        })
+    }
+
+    #[inline]
+    fn next(&mut self) -> Option<Match> {
+        if self.taken == self.filled && !self.refill() {
+            return None;
+        }
+        self.taken += 1;
+        Some(Match::found(self.batch[self.taken - 1]))
+    }
+
+    /// Looks for the next matches, and returns whether there are any.
+    #[cold]
+    fn refill(&mut self) -> bool {
+        if !self.goes_on {
+            return false;
+        }
+        let filled = (self.fill)(self.handle, self.haystack, &self.span, &mut self.cursor, &mut self.batch);
+        self.filled = filled.expect("a search that was begun isn't refused");
+        self.taken = 0;
+        self.goes_on = self.filled == BATCH;
+        self.filled > 0
+    }
+}
+
+/// The matches of [`AhoCorasick::find_iter`], in order.
+#[derive(Clone, Debug)]
+pub struct FindIter<'a, 'h>(Batches<'a, 'h>);
+
+impl<'a, 'h> FindIter<'a, 'h> {
+    pub(crate) fn new(handle: &'a Handle, input: &Input<'h>) -> Result<FindIter<'a, 'h>, Refusal> {
+        Batches::new(handle, Handle::walk, input).map(FindIter)
+    }
+}
+
+impl Iterator for FindIter<'_, '_> {
+    type Item = Match;
+
+    #[inline]
+    fn next(&mut self) -> Option<Match> {
+        self.0.next()
+    }
+}
+
+/// The matches of [`AhoCorasick::find_overlapping_iter`], by end, then start, then number.
+#[derive(Clone, Debug)]
+pub struct FindOverlappingIter<'a, 'h>(Batches<'a, 'h>);
+
+impl<'a, 'h> FindOverlappingIter<'a, 'h> {
+    pub(crate) fn new(handle: &'a Handle, input: &Input<'h>) -> Result<FindOverlappingIter<'a, 'h>, Refusal> {
+        Batches::new(handle, Handle::overlapping, input).map(FindOverlappingIter)
+    }
+}
+
+impl Iterator for FindOverlappingIter<'_, '_> {
+    type Item = Match;
+
+    #[inline]
+    fn next(&mut self) -> Option<Match> {
+        self.0.next()
+    }
+}

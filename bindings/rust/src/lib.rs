@@ -1,0 +1,39 @@
+//! Finds many patterns at once in a haystack. The searcher is a static library in which every function is proved; this
+//! crate is its safe Rust side. Names and calls are those of the crate `aho-corasick` 1.1.5.
+//!
+//! ```
+//! use aho_corasick_rattle::AhoCorasick;
+//!
+//! let searcher = AhoCorasick::new(["apple", "maple", "Snapple"])?;
+//! let text = "Nobody likes maple in their apple flavored Snapple.";
+//! let found: Vec<_> = searcher.find_iter(text).map(|m| (m.pattern().as_usize(), &text[m.range()])).collect();
+//! assert_eq!(found, [(1, "maple"), (0, "apple"), (2, "Snapple")]);
+//! # Ok::<(), aho_corasick_rattle::BuildError>(())
+//! ```
+//!
+//! What differs from that crate:
+//!
+//! - A searcher and its clones stay on one thread. They are neither `Send` nor `Sync`, since nothing is proved about
+//!   threads. Each thread may build its own.
+//! - [`AhoCorasickBuilder::build`] returns an error where there is no memory, and stops no program.
+//! - An iterator looks for up to 128 matches at once. So its first item may come after most of the haystack was read; for
+//!   one match take [`AhoCorasick::find`].
+//! - With `earliest` each match kind picks what [`MatchKind::Standard`] does.
+//! - Under a leftmost kind an empty pattern is picked like any other: the first in the list, or the longest, of those that
+//!   start first.
+//! - Streams, `find_overlapping` with its state, the modules of the engines and `packed` are absent.
+#![deny(unsafe_code)]
+#![warn(missing_docs, missing_debug_implementations)]
+
+mod ahocorasick;
+mod error;
+#[allow(unsafe_code)]
+mod ffi;
+mod iter;
+mod replace;
+mod search;
+
+pub use crate::ahocorasick::{AhoCorasick, AhoCorasickBuilder, AhoCorasickKind};
+pub use crate::error::{BuildError, MatchError, MatchErrorKind};
+pub use crate::iter::{FindIter, FindOverlappingIter};
+pub use crate::search::{Anchored, Input, Match, MatchKind, PatternID, PatternIDError, Span, StartKind};
