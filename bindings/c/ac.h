@@ -69,8 +69,8 @@ typedef struct ac_options {
 } ac_options;
 #define AC_DEFAULTS { AC_STANDARD, AC_START_UNANCHORED, AC_AUTO, 0, 1, 1, 2 }
 
-/* Where a search looks: from byte start up to byte end. Nothing outside counts. Where anchored isn't 0 a match has to
-   begin where the search does: at the start, and in a walk where the match before ended. */
+/* Where a search looks, and how: from byte start up to byte end; nothing outside counts. The other two are 0 or 1. In an
+   anchored search a match has to begin at the start, and in a walk where the match before ended. */
 typedef struct ac_span { size_t start, end; uint32_t anchored, earliest; } ac_span;
 #define AC_WHOLE(haystack_len) { 0, (haystack_len), 0, 0 }
 
@@ -95,8 +95,9 @@ void ac_close(ac_searcher *searcher);
 /* Writes what a searcher is. AC_OK. */
 int32_t ac_describe(const ac_searcher *searcher, ac_facts *out);
 
-/* The searches. In all of them AC_ARGUMENTS is returned, too, where the span's start is past its end or its end past the
-   haystack; AC_ANCHORED or AC_UNANCHORED where the span asks for what start_kind doesn't support. None takes memory. */
+/* The searches. In all of them AC_ARGUMENTS is returned, too, where the span's start is past its end, its end past the
+   haystack, or one of its settings above 1; AC_ANCHORED or AC_UNANCHORED where it asks for what start_kind doesn't support.
+   None takes memory. */
 
 /* Writes the match that is picked in the span. AC_FOUND; AC_OK where nothing occurs, and `out` is as it was. */
 int32_t ac_find(const ac_searcher *searcher, const void *haystack, size_t haystack_len, const ac_span *span, ac_match *out);
@@ -109,7 +110,7 @@ int32_t ac_count(const ac_searcher *searcher, const void *haystack, size_t hayst
 
 /* Writes the next matches of a walk, at most out_len, and how many they are, and moves the cursor behind them. A walk gives
    what is picked in the span, then what is picked behind it, and so on. An empty match is passed over where the one before
-   ended at the same place. Fewer than out_len come only at the end of the walk. AC_OK.
+   ended at the same place. Fewer than out_len come only at the end of the walk. AC_OK; else *filled is 0, unless it is null.
    Keep span and haystack as they are from call to call. */
 int32_t ac_walk(const ac_searcher *searcher, const void *haystack, size_t haystack_len, const ac_span *span,
                 ac_cursor *cursor, ac_match *out, size_t out_len, size_t *filled);

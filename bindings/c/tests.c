@@ -141,7 +141,7 @@ static void check_finds(void) {
     CHECK(match.pattern == 1 && match.start == 4 && match.end == 7);
     CHECK(ac_is_match(&searcher, haystack, 8, &span) == AC_FOUND);
     CHECK(ac_count(&searcher, haystack, 8, &span, &count) == AC_OK && count == 1);
-    span.earliest = 7;
+    span.earliest = 1;
     CHECK(ac_find(&searcher, haystack, 8, &span, &match) == AC_FOUND && match.pattern == 0 && match.start == 5);
     span = anchored(whole(haystack));
     CHECK(ac_find(&searcher, haystack, 8, &span, &match) == AC_OK && match.pattern == 0 && match.start == 5);
@@ -158,7 +158,8 @@ static void check_spans(void) {
         {{1, 4, 0, 0}, AC_FOUND}, {{0, 5, 0, 0}, AC_FOUND}, {{1, 3, 0, 0}, AC_OK}, {{2, 5, 0, 0}, AC_OK},
         {{5, 5, 0, 0}, AC_OK}, {{4, 3, 0, 0}, AC_ARGUMENTS}, {{0, 6, 0, 0}, AC_ARGUMENTS},
         {{6, 6, 0, 0}, AC_ARGUMENTS}, {{0, SIZE_MAX, 0, 0}, AC_ARGUMENTS}, {{SIZE_MAX, SIZE_MAX, 0, 0}, AC_ARGUMENTS},
-        {{SIZE_MAX, 0, 0, 0}, AC_ARGUMENTS}, {{1, 4, 1, 0}, AC_ANCHORED}, {{1, 4, UINT32_MAX, 0}, AC_ANCHORED},
+        {{SIZE_MAX, 0, 0, 0}, AC_ARGUMENTS}, {{1, 4, 1, 0}, AC_ANCHORED}, {{1, 4, 2, 0}, AC_ARGUMENTS},
+        {{1, 4, UINT32_MAX, 0}, AC_ARGUMENTS}, {{1, 4, 0, 2}, AC_ARGUMENTS}, {{1, 4, 0, UINT32_MAX}, AC_ARGUMENTS},
     };
     for (size_t i = 0; i < sizeof rows / sizeof *rows; i++) {
         int32_t status = rows[i].status, without = status == AC_FOUND ? AC_OK : status;
