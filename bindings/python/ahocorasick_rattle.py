@@ -139,7 +139,8 @@ class AhoCorasick:
     engine    "noncontiguous-nfa", "contiguous-nfa" or "dfa"; None chooses. It changes no answer, and neither do
               prefilter, byte_classes and dense_depth
 
-    In text all offsets count characters. An empty pattern is found between characters, and not inside one.
+    In text all offsets count characters. An empty pattern is found between characters, and not inside one. Each call
+    encodes its text, so many calls over one long text are better made over its bytes.
     The memory is freed by close(), at the end of a with block, or when the searcher is dropped. Threads may share a
     searcher: its calls take turns.
     """

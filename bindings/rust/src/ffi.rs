@@ -115,6 +115,13 @@ unsafe extern "C" {
         out: *mut Match,
     ) -> i32;
     fn ac_raw_is_match(searcher: *mut RawReader, haystack: *const u8, haystack_len: usize, span: *const Span) -> i32;
+    fn ac_raw_count(
+        searcher: *mut RawReader,
+        haystack: *const u8,
+        haystack_len: usize,
+        span: *const Span,
+        count: *mut usize,
+    ) -> i32;
     fn ac_raw_walk(
         searcher: *mut RawReader,
         haystack: *const u8,
@@ -174,6 +181,14 @@ impl Handle {
     pub(crate) fn is_match(&self, haystack: &[u8], span: &Span) -> Result<bool, Refusal> {
         // SAFETY: as in `find`.
         answer(unsafe { ac_raw_is_match(&mut self.reader(), haystack.as_ptr(), haystack.len(), span) })
+    }
+
+    /// How many matches a walk has.
+    pub(crate) fn count(&self, haystack: &[u8], span: &Span) -> Result<usize, Refusal> {
+        let mut count = 0;
+        // SAFETY: as in `find`.
+        let status = unsafe { ac_raw_count(&mut self.reader(), haystack.as_ptr(), haystack.len(), span, &mut count) };
+        answer(status).map(|_| count)
     }
 
     /// Fills `out` with the next matches of a walk and returns how many they are. Any cursor is safe.

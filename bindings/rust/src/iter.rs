@@ -84,6 +84,16 @@ impl Iterator for FindIter<'_, '_> {
     fn next(&mut self) -> Option<Match> {
         self.0.next()
     }
+
+    /// Where no match was taken yet the library counts them, and hands none over.
+    fn count(self) -> usize {
+        let Batches { handle, haystack, ref span, filled, goes_on, .. } = self.0;
+        if filled == 0 && goes_on {
+            handle.count(haystack, span).expect("a search that was begun isn't refused")
+        } else {
+            self.fold(0, |count, _| count + 1)
+        }
+    }
 }
 
 /// The matches of [`AhoCorasick::find_overlapping_iter`], by end, then start, then number.

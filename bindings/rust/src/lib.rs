@@ -18,10 +18,11 @@
 //! - [`AhoCorasickBuilder::build`] returns an error where there is no memory, and stops no program.
 //! - An iterator looks for up to 128 matches at once. So its first item may come after most of the haystack was read; for
 //!   one match take [`AhoCorasick::find`].
-//! - With `earliest` each match kind picks what [`MatchKind::Standard`] does.
-//! - Under a leftmost kind an empty pattern is picked like any other: the first in the list, or the longest, of those that
-//!   start first.
-//! - Streams, `find_overlapping` with its state, the modules of the engines and `packed` are absent.
+//! - With `earliest` each match kind picks what [`MatchKind::Standard`] does, prefilter or not.
+//! - Under a leftmost kind an empty pattern is picked like any other. An anchored walk may pass one byte after it.
+//! - [`AhoCorasick::is_match`] panics wherever [`AhoCorasick::find`] does, whatever the engine.
+//! - Streams, `find_overlapping` with its state, the modules of the engines and `packed` are absent. The figures of
+//!   [`AhoCorasick::memory_usage`] and the texts of errors and of `Debug` are others.
 #![deny(unsafe_code)]
 #![warn(missing_docs, missing_debug_implementations)]
 

@@ -16,11 +16,26 @@ fn batches_join() {
             assert_eq!(matches.next(), Some(Match::must(0, at..at + 1)));
         }
         assert_eq!((matches.next(), matches.next()), (None, None));
+        assert_eq!(matches.count(), 0);
+        for taken in [0, 1, 127, 128, 129] {
+            let mut matches = searcher.find_iter(&haystack);
+            let taken = matches.by_ref().take(taken).count();
+            assert_eq!(matches.count(), count - taken);
+        }
     }
     let searcher = AhoCorasick::new(["a"; 300]).unwrap();
     let all: Vec<Match> = searcher.find_overlapping_iter("aa").collect();
     let wanted = [0..1, 1..2].into_iter().flat_map(|span| (0..300).map(move |i| Match::must(i, span.clone())));
     assert!(all.into_iter().eq(wanted));
+}
+
+#[test]
+fn a_done_input_has_no_match() {
+    let searcher = AhoCorasick::new([""]).unwrap();
+    let done = Input::new("abc").range(4..);
+    assert_eq!((searcher.find(done.clone()), searcher.is_match(done.clone())), (None, false));
+    assert_eq!((searcher.find_iter(done.clone()).count(), searcher.find_iter(done.clone()).next()), (0, None));
+    assert_eq!(searcher.find_overlapping_iter(done).next(), None);
 }
 
 #[test]
