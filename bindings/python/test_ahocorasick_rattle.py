@@ -120,6 +120,7 @@ class Searches(unittest.TestCase):
             self.assertRaises(AnchoredError, searcher.find_iter, "a", anchored=True)
             for span in ((2, 2), (0, 2), (-1, 0), (1, 0)):
                 self.assertRaises(ArgumentError, searcher.find_iter, "a", *span)
+                self.assertRaises(ArgumentError, searcher.find_iter, "é", *span)
             self.assertRaises(ArgumentError, searcher.replace_all, "a", ["b", "c"])
             self.assertRaises(TypeError, searcher.find, b"a")
             self.assertRaises(TypeError, searcher.find, None)
@@ -152,9 +153,17 @@ class Lives(unittest.TestCase):
             matches = searcher.find_iter("a" * 2 * BATCH)
             next(matches)
         self.assertEqual(BATCH - 1, sum(1 for _ in itertools.islice(matches, BATCH - 1)))
-        self.assertRaises(ArgumentError, next, matches)
-        self.assertRaises(ArgumentError, searcher.find, "a")
+        self.assertRaisesRegex(ArgumentError, "closed", next, matches)
+        self.assertRaisesRegex(ArgumentError, "closed", searcher.find, "a")
         searcher.close()
+
+    def test_dropping(self):
+        """A searcher that nothing refers to is closed."""
+        searcher, closed = AhoCorasick(["a"]), []
+        close, searcher._close = searcher._close, lambda it: closed.append(close(it))
+        del searcher
+        gc.collect()
+        self.assertEqual([None], closed)
 
     def test_an_iterator_keeps_its_searcher(self):
         """It needs no other reference to it, or to the haystack."""

@@ -198,6 +198,7 @@ fn replacements_leave_characters_whole() {
     let searcher = AhoCorasick::new([b"\xc3"]).unwrap();
     assert_eq!(searcher.replace_all("é", &["x"]), "é");
     assert_eq!(searcher.replace_all_bytes("é".as_bytes(), &["x"]), b"x\xa9");
+    assert_eq!(AhoCorasick::new([b"\xa9"]).unwrap().replace_all("é", &["x"]), "é");
     let empty = AhoCorasick::new([""]).unwrap();
     assert_eq!(empty.replace_all("aé", &["-"]), "-a-é-");
 }
