@@ -116,7 +116,8 @@ int32_t ac_walk(const ac_searcher *searcher, const void *haystack, size_t haysta
                 ac_cursor *cursor, ac_match *out, size_t out_len, size_t *filled);
 
 /* The same for a listing: every occurrence, by its end, then its start, then its number. AC_OVERLAPPING where the searcher
-   isn't AC_STANDARD; AC_ANCHORED where the span is anchored. */
+   isn't AC_STANDARD; AC_ANCHORED where the span is anchored. Each call but the first reads again as many bytes as the
+   longest pattern has. */
 int32_t ac_overlapping(const ac_searcher *searcher, const void *haystack, size_t haystack_len, const ac_span *span,
                        ac_cursor *cursor, ac_match *out, size_t out_len, size_t *filled);
 

@@ -1,8 +1,8 @@
 //! The searcher and its builder.
 use crate::error::{BuildError, MatchError};
-use crate::ffi::{self, Facts, Handle};
+use crate::ffi::{self, Facts, Handle, Refusal};
 use crate::iter::{FindIter, FindOverlappingIter};
-use crate::search::{Input, Match, MatchKind, StartKind};
+use crate::search::{Anchored, Input, Match, MatchKind, StartKind};
 use std::fmt;
 use std::rc::Rc;
 
@@ -195,7 +195,9 @@ impl AhoCorasick {
 
     /// The matches one after another that don't overlap. Errors are those of [`AhoCorasick::try_find`].
     pub fn try_find_iter<'a, 'h, I: Into<Input<'h>>>(&'a self, input: I) -> Result<FindIter<'a, 'h>, MatchError> {
-        FindIter::new(&self.handle, &input.into()).map_err(|refusal| self.error(refusal))
+        let input = input.into();
+        self.check_start(&input)?;
+        Ok(FindIter::new(&self.handle, &input))
     }
 
     /// Every occurrence. An error says that the input is anchored, that the start kind doesn't support unanchored searches,
@@ -204,7 +206,15 @@ impl AhoCorasick {
         &'a self,
         input: I,
     ) -> Result<FindOverlappingIter<'a, 'h>, MatchError> {
-        FindOverlappingIter::new(&self.handle, &input.into()).map_err(|refusal| self.error(refusal))
+        let input = input.into();
+        self.check_start(&input)?;
+        if self.match_kind() != MatchKind::Standard {
+            return Err(self.error(Refusal::Overlapping));
+        }
+        if input.get_anchored().is_anchored() {
+            return Err(self.error(Refusal::Anchored));
+        }
+        Ok(FindOverlappingIter::new(&self.handle, &input))
     }
 
     /// The engine that serves.
@@ -254,7 +264,16 @@ impl AhoCorasick {
         self.facts.memory
     }
 
-    fn error(&self, refusal: ffi::Refusal) -> MatchError {
+    /// Refuses what the library refuses. An iterator is checked here, since it calls the library for its first match only.
+    fn check_start(&self, input: &Input<'_>) -> Result<(), MatchError> {
+        match (self.start_kind(), input.get_anchored()) {
+            (StartKind::Unanchored, Anchored::Yes) => Err(self.error(Refusal::Anchored)),
+            (StartKind::Anchored, Anchored::No) => Err(self.error(Refusal::Unanchored)),
+            _ => Ok(()),
+        }
+    }
+
+    fn error(&self, refusal: Refusal) -> MatchError {
         MatchError::of(refusal, self.match_kind())
     }
 

@@ -1,8 +1,7 @@
 //! Iterators over the matches of a search, which the library finds in batches.
 #[cfg(doc)]
 use crate::AhoCorasick;
-use crate::ffi;
-use crate::ffi::{Cursor, Handle, Refusal};
+use crate::ffi::{self, Cursor, Handle, Refusal};
 use crate::search::{Input, Match};
 
 /// How many matches are looked for at once: enough that a call costs little beside them.
@@ -26,22 +25,20 @@ struct Batches<'a, 'h> {
 }
 
 impl<'a, 'h> Batches<'a, 'h> {
-    /// A search of which nothing was found yet, if it isn't refused.
-    fn new(handle: &'a Handle, fill: Fill, input: &Input<'h>) -> Result<Batches<'a, 'h>, Refusal> {
-        let (haystack, span) = (input.haystack(), input.raw_span());
-        let mut cursor = Cursor { at: span.start, given: 0 };
-        fill(handle, haystack, &span, &mut cursor, &mut [])?;
-        Ok(Batches {
+    /// A search that the searcher supports, of which nothing was found yet.
+    fn new(handle: &'a Handle, fill: Fill, input: &Input<'h>) -> Batches<'a, 'h> {
+        let span = input.raw_span();
+        Batches {
             handle,
             fill,
-            haystack,
+            haystack: input.haystack(),
             span,
-            cursor,
+            cursor: Cursor { at: span.start, given: 0 },
             goes_on: !input.is_done(),
             taken: 0,
             filled: 0,
             batch: [ffi::Match::default(); BATCH],
-        })
+        }
     }
 
     #[inline]
@@ -60,7 +57,7 @@ impl<'a, 'h> Batches<'a, 'h> {
             return false;
         }
         let filled = (self.fill)(self.handle, self.haystack, &self.span, &mut self.cursor, &mut self.batch);
-        self.filled = filled.expect("a search that was begun isn't refused");
+        self.filled = filled.expect("a search that is supported");
         self.taken = 0;
         self.goes_on = self.filled == BATCH;
         self.filled > 0
@@ -72,8 +69,8 @@ impl<'a, 'h> Batches<'a, 'h> {
 pub struct FindIter<'a, 'h>(Batches<'a, 'h>);
 
 impl<'a, 'h> FindIter<'a, 'h> {
-    pub(crate) fn new(handle: &'a Handle, input: &Input<'h>) -> Result<FindIter<'a, 'h>, Refusal> {
-        Batches::new(handle, Handle::walk, input).map(FindIter)
+    pub(crate) fn new(handle: &'a Handle, input: &Input<'h>) -> FindIter<'a, 'h> {
+        FindIter(Batches::new(handle, Handle::walk, input))
     }
 }
 
@@ -89,7 +86,7 @@ impl Iterator for FindIter<'_, '_> {
     fn count(self) -> usize {
         let Batches { handle, haystack, ref span, filled, goes_on, .. } = self.0;
         if filled == 0 && goes_on {
-            handle.count(haystack, span).expect("a search that was begun isn't refused")
+            handle.count(haystack, span).expect("a search that is supported")
         } else {
             self.fold(0, |count, _| count + 1)
         }
@@ -101,8 +98,8 @@ impl Iterator for FindIter<'_, '_> {
 pub struct FindOverlappingIter<'a, 'h>(Batches<'a, 'h>);
 
 impl<'a, 'h> FindOverlappingIter<'a, 'h> {
-    pub(crate) fn new(handle: &'a Handle, input: &Input<'h>) -> Result<FindOverlappingIter<'a, 'h>, Refusal> {
-        Batches::new(handle, Handle::overlapping, input).map(FindOverlappingIter)
+    pub(crate) fn new(handle: &'a Handle, input: &Input<'h>) -> FindOverlappingIter<'a, 'h> {
+        FindOverlappingIter(Batches::new(handle, Handle::overlapping, input))
     }
 }
 

@@ -17,7 +17,8 @@
 //!   threads. Each thread may build its own.
 //! - [`AhoCorasickBuilder::build`] returns an error where there is no memory, and stops no program.
 //! - An iterator looks for up to 128 matches at once. So its first item may come after most of the haystack was read; for
-//!   one match take [`AhoCorasick::find`].
+//!   one match take [`AhoCorasick::find`]. In an overlapping search each 128 matches cost as many bytes that are read again
+//!   as the longest pattern has.
 //! - With `earliest` each match kind picks what [`MatchKind::Standard`] does, prefilter or not.
 //! - Under a leftmost kind an empty pattern is picked like any other. An anchored walk may pass one byte after it.
 //! - [`AhoCorasick::is_match`] panics wherever [`AhoCorasick::find`] does, whatever the engine.
