@@ -78,6 +78,8 @@ int32_t ac_count(const ac_searcher *searcher, const void *haystack, size_t hayst
 int32_t ac_walk(const ac_searcher *searcher, const void *haystack, size_t haystack_len, const ac_span *span,
                 ac_cursor *cursor, ac_match *out, size_t out_len, size_t *filled) {
     ac_match none;
+    if (filled)
+        *filled = 0;
     if (!is_search(searcher, haystack, haystack_len, span) || !cursor || !is_slice(out, out_len) || !filled)
         return AC_ARGUMENTS;
     ac_raw_reader reader = reader_of(searcher);
@@ -87,6 +89,8 @@ int32_t ac_walk(const ac_searcher *searcher, const void *haystack, size_t haysta
 int32_t ac_overlapping(const ac_searcher *searcher, const void *haystack, size_t haystack_len, const ac_span *span,
                        ac_cursor *cursor, ac_match *out, size_t out_len, size_t *filled) {
     ac_match none;
+    if (filled)
+        *filled = 0;
     if (!is_search(searcher, haystack, haystack_len, span) || !cursor || !is_slice(out, out_len) || !filled)
         return AC_ARGUMENTS;
     ac_raw_reader reader = reader_of(searcher);

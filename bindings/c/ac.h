@@ -28,7 +28,8 @@
    - A pointer and a length name so many bytes (or numbers, or matches) that may be read, and written where the call fills
      them. Where the length is 0 the pointer may be null.
    - What a call writes to is nothing that the same call reads.
-   - A searcher is empty, which is all zero, or comes from ac_open and was not closed. Don't copy it: one closes it for all.
+   - A searcher is empty, which is all zero, or comes from ac_open and was not closed. A copy of the struct is no second
+     searcher: what closes one closes both.
    - No two threads use one searcher at the same time. Each thread may open its own. */
 #ifndef AC_H
 #define AC_H
@@ -41,7 +42,7 @@ extern "C" {
 /* major * 10000 + minor * 100 + patch; ac_version() returns that of the library that was linked. */
 #define AC_VERSION 100
 
-/* What a call returns. After one of AC_ARGUMENTS to AC_OVERLAPPING the call has done nothing. */
+/* What a call returns. After one of AC_ARGUMENTS to AC_OVERLAPPING it has changed nothing, but that *filled is 0. */
 enum {
     AC_OK = 0,          /* done; nothing was found, where something is looked for */
     AC_FOUND = 1,       /* something was found */
@@ -84,7 +85,7 @@ uint32_t ac_version(void);
 
 /* Makes a searcher, for which ac_close has to be called. The bytes of all patterns stand one after another; pattern i goes
    up to ends[i], and begins where the one before ended. A pattern may be empty. All is copied.
-   AC_OK; AC_ARGUMENTS where an option has no such value, the ends fall or pass bytes_len, or `out` isn't empty; AC_MEMORY;
+   AC_OK; AC_ARGUMENTS where an option has no such value, ends go down or past bytes_len, or `out` isn't empty; AC_MEMORY;
    AC_LIMIT. */
 int32_t ac_open(const ac_options *options, const void *bytes, size_t bytes_len, const size_t *ends, size_t ends_len,
                 ac_searcher *out);
@@ -102,7 +103,7 @@ int32_t ac_describe(const ac_searcher *searcher, ac_facts *out);
 /* Writes the match that is picked in the span. AC_FOUND; AC_OK where nothing occurs, and `out` is as it was. */
 int32_t ac_find(const ac_searcher *searcher, const void *haystack, size_t haystack_len, const ac_span *span, ac_match *out);
 
-/* AC_FOUND exactly where ac_find would find, else AC_OK. */
+/* Returns what ac_find does. It stops as soon as it knows whether something occurs. */
 int32_t ac_is_match(const ac_searcher *searcher, const void *haystack, size_t haystack_len, const ac_span *span);
 
 /* Writes how many matches ac_walk gives in all. AC_OK. */
@@ -110,7 +111,7 @@ int32_t ac_count(const ac_searcher *searcher, const void *haystack, size_t hayst
 
 /* Writes the next matches of a walk, at most out_len, and how many they are, and moves the cursor behind them. A walk gives
    what is picked in the span, then what is picked behind it, and so on. An empty match is passed over where the one before
-   ended at the same place. Fewer than out_len come only at the end of the walk. AC_OK; else *filled is 0, unless it is null.
+   ended at the same place. Fewer than out_len come only at the end of the walk. AC_OK.
    Keep span and haystack as they are from call to call. */
 int32_t ac_walk(const ac_searcher *searcher, const void *haystack, size_t haystack_len, const ac_span *span,
                 ac_cursor *cursor, ac_match *out, size_t out_len, size_t *filled);
@@ -123,8 +124,8 @@ int32_t ac_overlapping(const ac_searcher *searcher, const void *haystack, size_t
 
 /* Replaces each match of a walk over the whole haystack by the text of its pattern. Texts are given as patterns are in
    ac_open, one for each. Writes the length of the answer into *needed, and the answer into `out` where it fits into
-   out_len; else `out` is as it was. AC_OK; AC_ARGUMENTS where there aren't as many texts as patterns, or their ends fall
-   or pass bytes_len; AC_UNANCHORED; AC_MEMORY. */
+   out_len; else `out` is as it was. AC_OK; AC_ARGUMENTS where there aren't as many texts as patterns, or ends go down or
+   past bytes_len; AC_UNANCHORED; AC_MEMORY. */
 int32_t ac_replace(const ac_searcher *searcher, const void *haystack, size_t haystack_len, const void *bytes,
                    size_t bytes_len, const size_t *ends, size_t ends_len, void *out, size_t out_len, size_t *needed);
 
