@@ -1,0 +1,10 @@
+-- The lemmas of numbers, texts, finds, walks and listings, and those of the proofs by hand (`Ownership`).
+pub mod FoundLemmas
+pub mod LateListings
+pub mod ListingBatches
+pub mod ListingStarts
+pub mod ListingSteps
+pub mod NumberLemmas
+pub mod Ownership
+pub mod TextLemmas
+pub mod WalkEnds

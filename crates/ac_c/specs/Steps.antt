@@ -1,0 +1,48 @@
+-- Words of private functions: where an iterator stands, by a cursor.
+use Rattle.std.specs.Prelude.{◌≡◌, ◌⊎◌, ℕ, ◌≤◌, ◌++◌, All, List, filter, length, IfSome, Option, None, Some}
+use Rattle.ac_search.specs.Built.{Built, search_in}
+use Rattle.ac_search.specs.Input.{InputView}
+use Rattle.ac_search.specs.Iterators.{Walking}
+use Rattle.ac_search.specs.Listing.{all}
+use Rattle.ac_search.specs.Occurrence.{Occurrence, Search, from}
+use Rattle.ac_search.specs.Overlaps.{Overlapping}
+use Rattle.ac_search.specs.Pick.{order_of}
+use Rattle.ac_search.specs.Walk.{next_match}
+use Rattle.ac_c.specs.declared.search.Cursor.{Cursor}
+use Rattle.ac_c.specs.Batches.{ends_from, last_of, walk_from}
+
+-- the matches of an input's walk that are left at a cursor
+abbrev pub walk_left : Built → InputView → Cursor → List Occurrence
+walk_left built input = walk_from (order_of built.kind input.earliest) (search_in built input)
+
+-- the iterator of a walk stands where the cursor does: it may not know of the match before
+pub record WalkStandsAt (walking : Walking) (cursor : Cursor) : Type 0 where
+  pub at : walking.left.low ≡ cursor.at
+  pub last : (walking.last ≡ None) ⊎ (walking.last ≡ last_of cursor)
+
+-- the matches that are left at a cursor, in the span of the walk
+abbrev pub left_at : Walking → Cursor → List Occurrence
+left_at walking cursor = walk_from walking.picking.order walking.left cursor
+
+-- another place of the same walk
+pub record IsOfWalk (walking new_walking : Walking) : Type 0 where
+  pub order : new_walking.picking.order ≡ walking.picking.order
+  pub left : from new_walking.left 0 ≡ from walking.left 0
+
+-- the next match after the cursor was taken, or there is none, and the iterator has gone past it
+pub record HasTaken (walking : Walking) (cursor : Cursor) (found : Option Occurrence) (new_walking : Walking) : Type 0 where
+  pub next : found ≡ next_match walking.picking.order (from walking.left cursor.at) (last_of cursor)
+  pub same : IsOfWalk walking new_walking
+  pub beyond : IfSome found (λ m. (new_walking.left.low ≡ m.end) × (new_walking.last ≡ Some m.end))
+
+-- what is left of a listing stands at a cursor: nothing that was passed over ends after it, and so many end at it as were
+-- given there
+pub record StandsIn (q : Search) (rest : List Occurrence) (at given : ℕ) : Type 0 where
+  pub passed : List Occurrence
+  pub listing : all q ≡ passed ++ rest
+  pub ends : All (λ m. m.end ≤ at) passed
+  pub counted : length (filter (ends_from at) passed) ≡ given
+
+-- so does what the iterator of a listing has left
+abbrev pub ListingStandsAt : Overlapping → Cursor → Type 0
+ListingStandsAt listing cursor = StandsIn listing.search listing.rest cursor.at cursor.given

@@ -1,0 +1,84 @@
+//! The settings of a searcher as numbers.
+ghost use Rattle.std.specs.Prelude.{◌≡◌, ◌≤◌, MatchOption, None, Some, slice_get, true, false};
+ghost use Rattle.ac_c.specs.Settings.{engines, flags, match_kinds, names_settings, settings_by, start_kinds};
+
+use ac_search::{AhoCorasick, AhoCorasickBuilder, AhoCorasickKind, MatchKind, StartKind};
+
+/// The settings of a searcher, each as a number: of a match kind, a start kind, an engine, and of three flags.
+#[repr(C)]
+#[derive(Clone, Copy)]
+pub struct Options {
+    pub match_kind: u32,
+    pub start_kind: u32,
+    pub engine: u32,
+    pub ignore_case: u32,
+    pub prefilter: u32,
+    pub byte_classes: u32,
+    pub dense_depth: usize,
+}
+
+/// Returns the match kind of this number, if there is one.
+fn match_kind_of(number: u32) -> Option<MatchKind>
+    ensures { result ≡ slice_get match_kinds number }
+{
+    match number {
+        0 => Some(MatchKind::Standard),
+        1 => Some(MatchKind::LeftmostFirst),
+        2 => Some(MatchKind::LeftmostLongest),
+        _ => None,
+    }
+}
+
+/// Returns the start kind of this number, if there is one.
+fn start_kind_of(number: u32) -> Option<StartKind>
+    ensures { result ≡ slice_get start_kinds number }
+{
+    match number {
+        0 => Some(StartKind::Unanchored),
+        1 => Some(StartKind::Anchored),
+        2 => Some(StartKind::Both),
+        _ => None,
+    }
+}
+
+/// Returns the engine of this number, if there is one: at 0 none is named, so that one is chosen.
+fn engine_of(number: u32) -> Option<Option<AhoCorasickKind>>
+    ensures { result ≡ slice_get engines number }
+{
+    match number {
+        0 => Some(None),
+        1 => Some(Some(AhoCorasickKind::NoncontiguousNFA)),
+        2 => Some(Some(AhoCorasickKind::ContiguousNFA)),
+        3 => Some(Some(AhoCorasickKind::DFA)),
+        _ => None,
+    }
+}
+
+/// Returns the flag of this number, if there is one.
+fn flag_of(number: u32) -> Option<bool>
+    ensures { result ≡ slice_get flags number }
+{
+    match number {
+        0 => Some(false),
+        1 => Some(true),
+        _ => None,
+    }
+}
+
+impl Options {
+    /// Returns a builder with these settings, or `None` where a number names none.
+    pub fn builder(&self) -> Option<AhoCorasickBuilder>
+        ensures { MatchOption result (names_settings self.now ≡ false)
+            (λ settings. (names_settings self.now ≡ true) × (settings ≡ settings_by self.now)) }
+    {
+        let mut builder = AhoCorasick::builder();
+        builder.match_kind(match_kind_of(self.match_kind)?);
+        builder.start_kind(start_kind_of(self.start_kind)?);
+        builder.kind(engine_of(self.engine)?);
+        builder.ascii_case_insensitive(flag_of(self.ignore_case)?);
+        builder.prefilter(flag_of(self.prefilter)?);
+        builder.byte_classes(flag_of(self.byte_classes)?);
+        builder.dense_depth(self.dense_depth);
+        Some(builder)
+    }
+}
