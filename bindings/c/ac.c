@@ -1,4 +1,4 @@
-/* The calls of ac.h. They test the pointers, which proofs take for granted, and hand all else to the proved library. */
+/* The calls of ac.h. They test pointers, which the proofs assume to be valid, and call the proved library. */
 #include "raw.h"
 
 /* A slice that may be null where it is empty. */
@@ -6,7 +6,7 @@ static int is_slice(const void *at, size_t len) {
     return at || len == 0;
 }
 
-/* What stands for the null pointer of an empty slice: the library takes none. No byte of it is read. */
+/* Stands in for the null pointer of an empty slice, since the library takes no null pointer. It is never read. */
 static const size_t nothing[1];
 
 static const void *slice(const void *at) {

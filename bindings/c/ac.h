@@ -1,5 +1,5 @@
-/* Aho-Corasick: finds many patterns at once in a haystack of bytes. The searcher behind these calls is proved to give what
-   stands here.
+/* Aho-Corasick: searches a haystack of bytes for many patterns at once. The searcher under these calls is proved to find
+   what this header says.
 
    #include "ac.h"
    #include <stdio.h>
@@ -17,19 +17,19 @@
        ac_close(&searcher);
    }
 
-   What is found. A pattern occurs in a span of the haystack where its bytes stand, all of them inside the span. Patterns
-   are numbered from 0, as they were given. Where occurrences overlap the match kind picks one:
+   What is found. A pattern occurs in a span of the haystack where its bytes are, all of them inside the span. Patterns are
+   numbered from 0, in the order of the list. Of all occurrences the match kind picks one, the match:
      AC_STANDARD          the one that ends first, of these the one that starts first
      AC_LEFTMOST_FIRST    the one that starts first, of these the one with the least number
      AC_LEFTMOST_LONGEST  the one that starts first, of these the longest
    and of equal ones the one with the least number. With `earliest` every kind picks as AC_STANDARD does.
 
    What the caller owes in every call:
-   - A pointer and a length name so many bytes (or numbers, or matches) that may be read, and written where the call fills
-     them. Where the length is 0 the pointer may be null.
-   - What a call writes to is nothing that the same call reads.
-   - A searcher is empty, which is all zero, or comes from ac_open and was not closed. A copy of the struct is no second
-     searcher: what closes one closes both.
+   - A pointer with a length points to that many bytes, numbers or matches, which may be read, and written if the call writes
+     there. If the length is 0 the pointer may be null.
+   - What a call writes does not overlap what the same call reads.
+   - A searcher is empty, which is all zero, or comes from ac_open and wasn't closed. A copy of the struct is the same
+     searcher: closing one closes both.
    - No two threads use one searcher at the same time. Each thread may open its own. */
 #ifndef AC_H
 #define AC_H
@@ -42,11 +42,11 @@ extern "C" {
 /* major * 10000 + minor * 100 + patch; ac_version() returns that of the library that was linked. */
 #define AC_VERSION 100
 
-/* What a call returns. After one of AC_ARGUMENTS to AC_OVERLAPPING it has changed nothing, but that *filled is 0. */
+/* What a call returns. With AC_ARGUMENTS to AC_OVERLAPPING it has done nothing, except that *filled is 0. */
 enum {
     AC_OK = 0,          /* done; nothing was found, where something is looked for */
     AC_FOUND = 1,       /* something was found */
-    AC_ARGUMENTS = 2,   /* an argument names nothing: a null pointer, an empty searcher, and what each call says */
+    AC_ARGUMENTS = 2,   /* a null pointer, an empty searcher, or an argument that the call rules out */
     AC_MEMORY = 3,      /* an allocation failed */
     AC_LIMIT = 4,       /* too many patterns, a pattern too long, or too many states */
     AC_ANCHORED = 5,    /* the searcher doesn't support anchored searches */
@@ -58,74 +58,72 @@ enum { AC_STANDARD = 0, AC_LEFTMOST_FIRST = 1, AC_LEFTMOST_LONGEST = 2 };       
 enum { AC_START_UNANCHORED = 0, AC_START_ANCHORED = 1, AC_START_BOTH = 2 };                  /* start_kind */
 enum { AC_AUTO = 0, AC_NONCONTIGUOUS_NFA = 1, AC_CONTIGUOUS_NFA = 2, AC_DFA = 3 };           /* engine */
 
-/* A searcher: owned by whoever opened it, until ac_close. */
+/* A searcher. Who opens it owns it, and has to close it. */
 typedef struct ac_searcher { void *at; } ac_searcher;
 #define AC_EMPTY { 0 }
 
-/* Settings of a searcher; ignore_case, prefilter and byte_classes are 0 or 1. start_kind says which searches it supports.
-   ignore_case takes the two cases of an ASCII letter for one. The engine and the other three change no answer. */
+/* The settings of a searcher; ignore_case, prefilter and byte_classes are 0 or 1. start_kind says which searches it supports;
+   with ignore_case the two cases of an ASCII letter are the same. engine and the last three change no answer. */
 typedef struct ac_options {
     uint32_t match_kind, start_kind, engine, ignore_case, prefilter, byte_classes;
     size_t dense_depth;
 } ac_options;
 #define AC_DEFAULTS { AC_STANDARD, AC_START_UNANCHORED, AC_AUTO, 0, 1, 1, 2 }
 
-/* Where a search looks, and how: from byte start up to byte end; nothing outside counts. The other two are 0 or 1. In an
-   anchored search a match has to begin at the start, and in a walk where the match before ended. */
+/* What is searched, and how: from byte start up to byte end, as if there were nothing else. The other two are 0 or 1. In an
+   anchored search a match has to begin at start; in a walk, where the match before it ended. */
 typedef struct ac_span { size_t start, end; uint32_t anchored, earliest; } ac_span;
 #define AC_WHOLE(haystack_len) { 0, (haystack_len), 0, 0 }
 
 typedef struct ac_match { size_t pattern, start, end; } ac_match;
-/* Where a walk or a listing has come to. {span.start, 0} begins one; any numbers are safe. */
+/* How far a walk or a listing has come. {span.start, 0} begins one; any numbers are safe. */
 typedef struct ac_cursor { size_t at, given; } ac_cursor;
-/* engine is the one that serves, never AC_AUTO; without patterns shortest is SIZE_MAX and longest 0. */
+/* engine is never AC_AUTO. Without patterns shortest is SIZE_MAX, and longest is 0. */
 typedef struct ac_facts { size_t patterns, shortest, longest, memory; uint32_t engine, match_kind, start_kind; } ac_facts;
 
 uint32_t ac_version(void);
 
-/* Makes a searcher, for which ac_close has to be called. The bytes of all patterns stand one after another; pattern i goes
-   up to ends[i], and begins where the one before ended. A pattern may be empty. All is copied.
-   AC_OK; AC_ARGUMENTS where an option has no such value, ends go down or past bytes_len, or `out` isn't empty; AC_MEMORY;
+/* Builds a searcher. `bytes` has all patterns one after another: pattern i ends before ends[i], and begins where the one
+   before it ended. A pattern may be empty. The searcher keeps a copy of them.
+   AC_OK; AC_ARGUMENTS if an option has no such value, if ends go down or past bytes_len, or if `out` isn't empty; AC_MEMORY;
    AC_LIMIT. */
 int32_t ac_open(const ac_options *options, const void *bytes, size_t bytes_len, const size_t *ends, size_t ends_len,
                 ac_searcher *out);
 
-/* Frees a searcher and leaves it empty. Of an empty one, or of null, nothing is done. */
+/* Frees a searcher, and leaves it empty. Does nothing if it is empty or null. */
 void ac_close(ac_searcher *searcher);
 
-/* Writes what a searcher is. AC_OK. */
+/* Writes the facts of a searcher. AC_OK. */
 int32_t ac_describe(const ac_searcher *searcher, ac_facts *out);
 
-/* The searches. In all of them AC_ARGUMENTS is returned, too, where the span's start is past its end, its end past the
-   haystack, or one of its settings above 1; AC_ANCHORED or AC_UNANCHORED where it asks for what start_kind doesn't support.
-   None takes memory. */
+/* The searches. Each also returns AC_ARGUMENTS if the span starts past its end, ends past the haystack, or has a setting above
+   1; and AC_ANCHORED or AC_UNANCHORED if start_kind doesn't support the search. None takes memory. */
 
-/* Writes the match that is picked in the span. AC_FOUND; AC_OK where nothing occurs, and `out` is as it was. */
+/* Writes the match in the span. AC_FOUND; or AC_OK if no pattern occurs, and `out` is as it was. */
 int32_t ac_find(const ac_searcher *searcher, const void *haystack, size_t haystack_len, const ac_span *span, ac_match *out);
 
-/* Returns what ac_find does. It stops as soon as it knows whether something occurs. */
+/* Returns what ac_find returns. It stops as soon as it knows of an occurrence. */
 int32_t ac_is_match(const ac_searcher *searcher, const void *haystack, size_t haystack_len, const ac_span *span);
 
-/* Writes how many matches ac_walk gives in all. AC_OK. */
+/* Writes how many matches a walk has in all. AC_OK. */
 int32_t ac_count(const ac_searcher *searcher, const void *haystack, size_t haystack_len, const ac_span *span, size_t *count);
 
-/* Writes the next matches of a walk, at most out_len, and how many they are, and moves the cursor behind them. A walk gives
-   what is picked in the span, then what is picked behind it, and so on. An empty match is passed over where the one before
-   ended at the same place. Fewer than out_len come only at the end of the walk. AC_OK.
-   Keep span and haystack as they are from call to call. */
+/* Writes the next matches of a walk, at most out_len, and how many they are, and moves the cursor past them. A walk has the
+   match in the span, then the match in what follows it, and so on; an empty match is left out where the one before it ended.
+   Fewer than out_len are written only if no more follow. AC_OK. Pass the same span and haystack in all calls of a walk. */
 int32_t ac_walk(const ac_searcher *searcher, const void *haystack, size_t haystack_len, const ac_span *span,
                 ac_cursor *cursor, ac_match *out, size_t out_len, size_t *filled);
 
-/* The same for a listing: every occurrence, by its end, then its start, then its number. AC_OVERLAPPING where the searcher
-   isn't AC_STANDARD; AC_ANCHORED where the span is anchored. Each call but the first reads again as many bytes as the
-   longest pattern has. */
+/* The same for a listing: every occurrence, ordered by end, then start, then number. Also AC_OVERLAPPING if the searcher
+   isn't AC_STANDARD, and AC_ANCHORED if the span is anchored. A call that goes on reads as many bytes again as the longest
+   pattern has. */
 int32_t ac_overlapping(const ac_searcher *searcher, const void *haystack, size_t haystack_len, const ac_span *span,
                        ac_cursor *cursor, ac_match *out, size_t out_len, size_t *filled);
 
-/* Replaces each match of a walk over the whole haystack by the text of its pattern. Texts are given as patterns are in
-   ac_open, one for each. Writes the length of the answer into *needed, and the answer into `out` where it fits into
-   out_len; else `out` is as it was. AC_OK; AC_ARGUMENTS where there aren't as many texts as patterns, or ends go down or
-   past bytes_len; AC_UNANCHORED; AC_MEMORY. */
+/* Replaces each match of a walk over the whole haystack by the text of its pattern. `bytes` and `ends` are the texts, one for
+   each pattern, as in ac_open. Writes the length of the result to *needed, and the result to `out` if out_len is enough; else
+   `out` is as it was. AC_OK; AC_ARGUMENTS if there aren't as many texts as patterns, or if ends go down or past bytes_len;
+   AC_UNANCHORED; AC_MEMORY. */
 int32_t ac_replace(const ac_searcher *searcher, const void *haystack, size_t haystack_len, const void *bytes,
                    size_t bytes_len, const size_t *ends, size_t ends_len, void *out, size_t out_len, size_t *needed);
 

@@ -49,7 +49,7 @@ static ac_options options_of(uint32_t match_kind, uint32_t start_kind, uint32_t 
     return options;
 }
 
-/* Opens a searcher over patterns with a bar behind each. */
+/* Opens a searcher over patterns, with a bar after each. */
 static int32_t open_words(const ac_options *options, const char *words, ac_searcher *out) {
     char bytes[256];
     size_t ends[64], len = 0, count = 0;
@@ -81,7 +81,7 @@ typedef int32_t search(const ac_searcher *, const void *, size_t, const ac_span 
 
 enum { TEXT = 1 << 15 };
 
-/* All that a walk or a listing gives in batches, as text: pattern, start and end of each match. Null where it's refused. */
+/* All matches of a walk or a listing in batches, as text: pattern, start and end of each. Null if it is refused. */
 static const char *text_of(search *by, const ac_searcher *searcher, const char *haystack, ac_span span, size_t batch) {
     static _Thread_local char text[TEXT];
     ac_cursor cursor = {span.start, 0};
@@ -96,12 +96,13 @@ static const char *text_of(search *by, const ac_searcher *searcher, const char *
     return text;
 }
 
-static int gives(search *by, const ac_searcher *searcher, const char *haystack, ac_span span, size_t batch, const char *wanted) {
+static int gives(search *by, const ac_searcher *searcher, const char *haystack, ac_span span, size_t batch,
+                 const char *wanted) {
     const char *got = text_of(by, searcher, haystack, span, batch);
     return got && !strcmp(got, wanted);
 }
 
-/* Each kind and engine gives one text in batches of each size. */
+/* Each engine has the same matches, in batches of each size. */
 static void check_matches(search *by, uint32_t kind, const char *words, const char *haystack, const char *wanted) {
     for (uint32_t engine = AC_AUTO; engine <= AC_DFA; engine++) {
         ac_searcher searcher = opened(options_of(kind, AC_START_UNANCHORED, engine), words);
@@ -290,7 +291,8 @@ static void check_pointers(void) {
     CHECK(ac_is_match(&searcher, NULL, 1, &one) == AC_ARGUMENTS && ac_is_match(&searcher, "a", 1, NULL) == AC_ARGUMENTS);
     CHECK(ac_count(&empty, "a", 1, &one, &number) == AC_ARGUMENTS && ac_count(NULL, "a", 1, &one, &number) == AC_ARGUMENTS);
     CHECK(ac_count(&searcher, NULL, 1, &one, &number) == AC_ARGUMENTS);
-    CHECK(ac_count(&searcher, "a", 1, NULL, &number) == AC_ARGUMENTS && ac_count(&searcher, "a", 1, &one, NULL) == AC_ARGUMENTS);
+    CHECK(ac_count(&searcher, "a", 1, NULL, &number) == AC_ARGUMENTS);
+    CHECK(ac_count(&searcher, "a", 1, &one, NULL) == AC_ARGUMENTS);
     CHECK(ac_describe(&empty, &facts) == AC_ARGUMENTS && ac_describe(NULL, &facts) == AC_ARGUMENTS);
     CHECK(ac_describe(&searcher, NULL) == AC_ARGUMENTS);
     CHECK(ac_replace(&searcher, NULL, 0, "b", 1, &end, 1, NULL, 0, &number) == AC_OK && !number);
@@ -348,7 +350,7 @@ static void check_replaces(void) {
 
 static const char *pronouns = "he|her|his|hers||";
 
-/* An opening, or a replacement in a searcher that is open: a refusal is told, and nothing else has changed. */
+/* An opening, or a replacement by an open searcher: the status says that there was no memory, and nothing has changed. */
 static int open_scarce(ac_options options, ac_searcher *searcher) {
     int32_t status = open_words(&options, pronouns, searcher);
     int is_right = status == AC_OK ? searcher->at != NULL : status == AC_MEMORY && !searcher->at;
@@ -365,7 +367,7 @@ static int replace_scarce(ac_options options, ac_searcher *searcher) {
     return status == AC_OK ? needed != 77 && out[0] != '#' : status == AC_MEMORY && needed == 77 && out[0] == '#';
 }
 
-/* Makes a call again and again; the first time its first request is refused, then its second and so on. */
+/* Makes a call again and again: first its first request is refused, then its second, and so on. */
 static long refuse_each(int call(ac_options, ac_searcher *), ac_options options, ac_searcher *searcher) {
     for (long number = 0;; number++) {
         granted = number;
@@ -391,7 +393,7 @@ static void check_refusals(void) {
     }
 }
 
-/* A thread's work, over a searcher of its own; null where all is right. */
+/* What a thread does, with a searcher of its own. Null if all is right. */
 static void *work(void *number) {
     uint32_t engine = *(uint32_t *)number;
     for (int round = 0; round < 50; round++) {
@@ -435,7 +437,7 @@ static const char *random_text(char *text, const char *letters, uint32_t most, c
     return text;
 }
 
-/* All searchers over one list give one answer, in batches of all sizes, and calls of other kinds agree with it. */
+/* All engines have the same matches in batches of any size, and the other calls agree with them. */
 static void check_random_list(void) {
     char words[40], haystack[40], wanted[TEXT];
     random_text(words, "abB|", 30, "|");

@@ -1,10 +1,10 @@
-"""Finds many patterns at once, in text or in bytes. The searcher behind it is proved, and stands in libac.so.
+"""Searches text or bytes for many patterns at once. The searcher is proved; it is in libac.so.
 
     with AhoCorasick(["apple", "maple", "Snapple"]) as searcher:
         for match in searcher.find_iter("Nobody likes maple in their apple flavored Snapple."):
             print(match.pattern, match.start, match.end)
 
-libac.so is looked for where the variable AC_LIBRARY says, then beside this file, then where shared objects usually are.
+The variable AC_LIBRARY may name that file. Else it is looked for beside this one, and then where shared objects usually are.
 """
 import collections
 import ctypes
@@ -12,7 +12,7 @@ import os
 import threading
 
 VERSION = 100
-BATCH = 512  # matches that are looked for in one call
+BATCH = 512  # matches that one call may find
 KINDS = ("standard", "leftmost-first", "leftmost-longest")
 STARTS = ("unanchored", "anchored", "both")
 ENGINES = (None, "noncontiguous-nfa", "contiguous-nfa", "dfa")
@@ -22,11 +22,11 @@ Match.__doc__ = "The number of a pattern in the list, and where it was found: ha
 
 
 class Error(ValueError):
-    """A call that the library refuses."""
+    """A call was refused."""
 
 
 class ArgumentError(Error):
-    """An argument names nothing: a span outside the haystack, say, or another number of texts than of patterns."""
+    """An argument is wrong: a span outside the haystack, say, or another number of replacements than of patterns."""
 
 
 class LimitError(Error):
@@ -34,7 +34,7 @@ class LimitError(Error):
 
 
 class AnchoredError(Error):
-    """The searcher doesn't support anchored searches, or the call doesn't."""
+    """The searcher doesn't support anchored searches."""
 
 
 class UnanchoredError(Error):
@@ -74,7 +74,7 @@ class _Facts(ctypes.Structure):
 
 
 def _load():
-    """Opens the library and says what its calls take."""
+    """Opens the library, and declares its calls."""
     beside = os.path.join(os.path.dirname(os.path.abspath(__file__)), "libac.so")
     library = ctypes.CDLL(os.environ.get("AC_LIBRARY") or (beside if os.path.exists(beside) else "libac.so"))
     searcher, span, cursor = map(ctypes.POINTER, (_Searcher, _Span, _Cursor))
@@ -99,7 +99,7 @@ _library = _load()
 
 
 def _raise_on(status):
-    """Raises what a status says, unless it is that of a call that was done."""
+    """Raises the exception of a status, if it has one."""
     if status == MEMORY:
         raise MemoryError("no memory for the searcher or for what it replaces")
     if status not in (OK, FOUND):
@@ -132,17 +132,17 @@ def _number(names, name, what):
 class AhoCorasick:
     """A searcher for patterns, which are all str or all bytes; haystacks then are the same.
 
-    kind      which of several overlapping occurrences is picked. "standard": the one that ends first, of these the one that
-              starts first. "leftmost-first": the one that starts first, of these the first in the list.
+    kind      which of several overlapping occurrences is the match. "standard": the one that ends first, of these the one
+              that starts first. "leftmost-first": the one that starts first, of these the first in the list.
               "leftmost-longest": the one that starts first, of these the longest
     start     which searches are supported: "unanchored", "anchored" or "both"
-    engine    "noncontiguous-nfa", "contiguous-nfa" or "dfa"; None chooses. It changes no answer, and neither do
-              prefilter, byte_classes and dense_depth
+    engine    "noncontiguous-nfa", "contiguous-nfa", "dfa", or None for a choice by the number of patterns. It changes no
+              answer, and neither do prefilter, byte_classes and dense_depth
 
-    In text all offsets count characters. An empty pattern is found between characters, and not inside one. Each call
-    encodes its text, so many calls over one long text are better made over its bytes.
-    The memory is freed by close(), at the end of a with block, or when the searcher is dropped. Threads may share a
-    searcher: its calls take turns.
+    In text all offsets count characters, and an empty pattern matches between characters, but not inside one. Each call
+    encodes its text: for many calls over one long text, search bytes.
+    close() frees the memory; so do the end of a with block and the garbage collector. Threads may share a searcher, and its
+    calls take turns.
     """
 
     def __init__(self, patterns, kind="standard", ignore_case=False, engine=None, start="unanchored", prefilter=True,
@@ -165,7 +165,7 @@ class AhoCorasick:
         self.engine, self.memory_usage = ENGINES[facts.engine], facts.memory
 
     def close(self):
-        """Frees the memory. No search can be made any more."""
+        """Frees the memory. Searches are refused from then on."""
         with self._lock:
             self._close(self._searcher)
 
@@ -182,7 +182,7 @@ class AhoCorasick:
         return len(self._lengths)
 
     def find(self, haystack, start=0, end=None, anchored=False, earliest=False):
-        """Returns the match that is picked, or None."""
+        """Returns the match, or None. With `earliest` each kind picks as "standard" does."""
         data, span = self._span(haystack, start, end, anchored, earliest)
         found = (ctypes.c_size_t * 3)()
         if self._call(_library.ac_find, data, len(data), span, found) != FOUND:
@@ -190,12 +190,12 @@ class AhoCorasick:
         return next(self._matches(haystack, data, start, [[*found]]))
 
     def is_match(self, haystack, start=0, end=None, anchored=False):
-        """Returns whether a pattern occurs."""
+        """Returns whether a pattern occurs in haystack[start:end]."""
         data, span = self._span(haystack, start, end, anchored, False)
         return self._call(_library.ac_is_match, data, len(data), span) == FOUND
 
     def count(self, haystack, start=0, end=None, anchored=False, earliest=False):
-        """Returns how many matches find_iter gives."""
+        """Returns how many matches find_iter has."""
         if 0 in self._lengths and self._type is str:
             return sum(1 for _ in self.find_iter(haystack, start, end, anchored, earliest))
         data, span = self._span(haystack, start, end, anchored, earliest)
@@ -204,17 +204,17 @@ class AhoCorasick:
         return count.value
 
     def find_iter(self, haystack, start=0, end=None, anchored=False, earliest=False):
-        """Gives the matches one after another that don't overlap: what is picked, then what is picked behind it."""
+        """Returns an iterator over matches that don't overlap: the match, then the match in what follows it, and so on."""
         data, span = self._span(haystack, start, end, anchored, earliest)
         return self._matches(haystack, data, start, self._batches(_library.ac_walk, data, span))
 
     def find_overlapping_iter(self, haystack, start=0, end=None):
-        """Gives every occurrence, by end, then start, then number."""
+        """Returns an iterator over all occurrences, ordered by end, then start, then number."""
         data, span = self._span(haystack, start, end, False, False)
         return self._matches(haystack, data, start, self._batches(_library.ac_overlapping, data, span))
 
     def replace_all(self, haystack, replacements):
-        """Returns the haystack with each match of find_iter replaced by what stands at the pattern's place in the list."""
+        """Returns the haystack with each match of find_iter replaced by the item of its pattern in replacements."""
         replacements = list(replacements)
         if any(type(replacement) is not type(haystack) for replacement in replacements):
             raise TypeError("replacements are of the haystack's type")
@@ -239,7 +239,7 @@ class AhoCorasick:
         return "".join(pieces) + haystack[at:]
 
     def _call(self, call, *arguments):
-        """Makes a call of the library, and returns its status if that is no error."""
+        """Calls the library, and returns the status if it is no error."""
         with self._lock:
             if not self._searcher.at:
                 raise ArgumentError("the searcher is closed")
@@ -263,7 +263,7 @@ class AhoCorasick:
         return data, _Span(start, end, bool(anchored), bool(earliest))
 
     def _batches(self, call, data, span):
-        """Gives the numbers of the matches of a search, a batch at a time. A search that is refused is so at once."""
+        """Returns an iterator over batches of matches, as flat lists of numbers. A refused search raises here."""
         cursor, filled = _Cursor(span.start, 0), ctypes.c_size_t()
         self._call(call, data, len(data), span, cursor, None, 0, filled)
 
@@ -276,7 +276,7 @@ class AhoCorasick:
         return batches()
 
     def _matches(self, haystack, data, start, batches):
-        """Gives the matches whose numbers stand in batches, with offsets of the haystack's own type."""
+        """Yields the matches of such batches, with offsets in the haystack."""
         is_wide = len(data) != len(haystack)
         characters, at = start, len(_encode(haystack[:start])) if is_wide else start
         for numbers in batches:
@@ -284,7 +284,7 @@ class AhoCorasick:
                 if not is_wide:
                     yield Match(pattern, begin, end)
                 elif end == len(data) or data[end] & 0xC0 != 0x80:
-                    # Ends ascend, so each stretch is counted once. A match has as many characters as its pattern.
+                    # Ends ascend, so each character is counted once. A match has as many characters as its pattern.
                     characters += len(_decode(data[at:end]))
                     at = end
                     yield Match(pattern, characters - self._lengths[pattern], characters)

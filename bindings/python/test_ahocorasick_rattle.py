@@ -29,7 +29,7 @@ class Cases(unittest.TestCase):
     """The lines of cases.txt."""
 
     def test_answers(self):
-        """Each engine gives the answers of the file, to text and to bytes."""
+        """Each engine has the answers of the file, in text and in bytes."""
         kinds = dict(zip(("std", "first", "longest", "all"), (*KINDS, "standard")))
         lines = [line for line in CASES.read_text().splitlines() if not line.startswith("#")]
         for line in lines:
@@ -88,7 +88,7 @@ class Searches(unittest.TestCase):
             self.assertEqual("é\ud800é", searcher.replace_all("é\udc80é", ["\ud800"]))
 
     def test_batches_join(self):
-        """No match is lost or given twice between two of them."""
+        """No match is lost or repeated between two of them."""
         for count in (0, 1, BATCH - 1, BATCH, BATCH + 1, 3 * BATCH):
             with AhoCorasick(["a"]) as searcher:
                 self.assertEqual([(0, at, at + 1) for at in range(count)], list(searcher.find_iter("a" * count)))

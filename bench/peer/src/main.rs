@@ -1,5 +1,5 @@
 //! `peer FOLDER TIMES` measures the Rust binding beside the Rust crate aho-corasick 0.7.19, over the haystacks and pattern
-//! sets that ../haystacks.py wrote to a folder. Both search turn about; the best of so many times counts.
+//! sets that ../haystacks.py wrote to a folder. Both run alternately, that many times, and the best time of each counts.
 use aho_corasick as peer;
 use aho_corasick_rattle::{AhoCorasick, AhoCorasickKind};
 use std::hint::black_box;
@@ -7,7 +7,7 @@ use std::path::Path;
 use std::time::Instant;
 use std::{env, fs};
 
-/// Runs two pieces of work by turns, and returns the least seconds of each.
+/// Runs two pieces of work alternately, and returns the least seconds of each.
 fn best<A, B>(times: usize, mut ours: impl FnMut() -> A, mut theirs: impl FnMut() -> B) -> (f64, f64) {
     let (mut our_best, mut their_best) = (f64::MAX, f64::MAX);
     for _ in 0..times {
@@ -108,7 +108,7 @@ fn print_ratios(name: &str, engine: Engine, haystack: &[u8], patterns: &[&[u8]],
     println!(" |");
 }
 
-/// What it costs that matches are handed over: a walk that looks at each, beside a count that the library makes inside.
+/// Prints what matches cost that cross the boundary: a walk that looks at each, and a count inside the library.
 fn print_boundary(distance: usize, length: usize, times: usize) {
     let haystack: Vec<u8> = (0..length).map(|at| if at % distance == distance - 1 { b'!' } else { b'.' }).collect();
     let mut builder = AhoCorasick::builder();
@@ -148,7 +148,7 @@ fn main() {
         }
         length = haystack.len();
     }
-    println!("\nThe boundary: matches handed over in batches, beside a count made inside the library.\n");
+    println!("\nThe boundary: a walk whose matches cross it in batches, and a count inside the library.\n");
     println!("| Bytes from match to match | Walk, MB/s | Count, MB/s | Walk to count | Nanoseconds a match |");
     println!("|---|---|---|---|---|");
     for distance in [8, 64, 1 << 16] {

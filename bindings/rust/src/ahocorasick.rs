@@ -6,19 +6,19 @@ use crate::search::{Anchored, Input, Match, MatchKind, StartKind};
 use std::fmt;
 use std::rc::Rc;
 
-/// Which engine serves a searcher. It changes no answer.
+/// Which engine a searcher uses. It changes no answer.
 #[non_exhaustive]
 #[derive(Clone, Copy, Debug, PartialEq, Eq)]
 pub enum AhoCorasickKind {
     /// A trie with failure links, quick to build.
     NoncontiguousNFA,
-    /// The same packed into words, which takes the least memory.
+    /// The same, packed into words. It takes the least memory.
     ContiguousNFA,
-    /// A table of all steps, which is the fastest and the largest.
+    /// A table of all transitions. It is the fastest, and takes the most memory.
     DFA,
 }
 
-/// The settings that a searcher is built by.
+/// The settings of a searcher.
 #[derive(Clone, Debug)]
 pub struct AhoCorasickBuilder {
     options: ffi::Options,
@@ -31,7 +31,8 @@ impl Default for AhoCorasickBuilder {
 }
 
 impl AhoCorasickBuilder {
-    /// The usual settings: [`MatchKind::Standard`], [`StartKind::Unanchored`], case counts, and the engine is chosen.
+    /// Returns the default settings: [`MatchKind::Standard`], [`StartKind::Unanchored`], case matters, and the builder chooses
+    /// the engine.
     pub fn new() -> AhoCorasickBuilder {
         let options = ffi::Options {
             match_kind: 0,
@@ -45,8 +46,8 @@ impl AhoCorasickBuilder {
         AhoCorasickBuilder { options }
     }
 
-    /// Builds a searcher over patterns, which are copied. An error says that there are too many patterns, that one is too
-    /// long, that there would be too many states, or that there is no memory.
+    /// Builds a searcher, which keeps a copy of the patterns. It is an error if there are too many patterns, if one is too
+    /// long, if there would be too many states, or if there is no memory.
     pub fn build<I, P>(&self, patterns: I) -> Result<AhoCorasick, BuildError>
     where
         I: IntoIterator<Item = P>,
@@ -61,7 +62,7 @@ impl AhoCorasickBuilder {
         Ok(AhoCorasick { facts: handle.facts(), handle: Rc::new(handle) })
     }
 
-    /// Sets which of several overlapping occurrences is picked.
+    /// Sets which of several overlapping occurrences is the match.
     pub fn match_kind(&mut self, kind: MatchKind) -> &mut AhoCorasickBuilder {
         self.options.match_kind = match kind {
             MatchKind::Standard => 0,
@@ -87,7 +88,7 @@ impl AhoCorasickBuilder {
         self
     }
 
-    /// Sets the engine; with `None` it is chosen by the number of patterns.
+    /// Sets the engine. With `None` it depends on the number of patterns.
     pub fn kind(&mut self, kind: Option<AhoCorasickKind>) -> &mut AhoCorasickBuilder {
         self.options.engine = match kind {
             None => 0,
@@ -98,42 +99,42 @@ impl AhoCorasickBuilder {
         self
     }
 
-    /// Sets whether a fast search for first bytes may skip what can't match. It changes no answer.
+    /// Sets whether a search may skip to where a match can begin. It changes no answer.
     pub fn prefilter(&mut self, yes: bool) -> &mut AhoCorasickBuilder {
         self.options.prefilter = yes.into();
         self
     }
 
-    /// Sets up to which depth states of the contiguous NFA are dense. It changes no answer.
+    /// Sets below which depth the states of a contiguous NFA are dense. It changes no answer.
     pub fn dense_depth(&mut self, depth: usize) -> &mut AhoCorasickBuilder {
         self.options.dense_depth = depth;
         self
     }
 
-    /// Sets whether bytes that no pattern tells apart share their steps. It changes no answer.
+    /// Sets whether bytes that no pattern distinguishes share their transitions. It changes no answer.
     pub fn byte_classes(&mut self, yes: bool) -> &mut AhoCorasickBuilder {
         self.options.byte_classes = yes.into();
         self
     }
 }
 
-/// A searcher for many patterns at once. A clone shares it, and costs little.
+/// A searcher for many patterns at once. A clone is cheap: both share one engine.
 ///
-/// A searcher stays on its thread:
+/// A searcher is not `Send`:
 ///
 /// ```compile_fail,E0277
 /// let searcher = aho_corasick_rattle::AhoCorasick::new(["a"]).unwrap();
 /// std::thread::spawn(move || searcher.is_match("a"));
 /// ```
 ///
-/// and so does a reference to it:
+/// and not `Sync`:
 ///
 /// ```compile_fail,E0277
 /// let searcher = aho_corasick_rattle::AhoCorasick::new(["a"]).unwrap();
 /// std::thread::scope(|scope| { scope.spawn(|| searcher.is_match("a")); });
 /// ```
 ///
-/// What a search gives borrows the searcher and the haystack:
+/// An iterator borrows the searcher and the haystack:
 ///
 /// ```compile_fail,E0505
 /// let searcher = aho_corasick_rattle::AhoCorasick::new(["a"]).unwrap();
@@ -148,7 +149,7 @@ pub struct AhoCorasick {
 }
 
 impl AhoCorasick {
-    /// A searcher over patterns by the usual settings.
+    /// Builds a searcher with the default settings.
     pub fn new<I, P>(patterns: I) -> Result<AhoCorasick, BuildError>
     where
         I: IntoIterator<Item = P>,
@@ -157,51 +158,52 @@ impl AhoCorasick {
         AhoCorasickBuilder::new().build(patterns)
     }
 
-    /// The usual settings, to be changed.
+    /// Returns a builder with the default settings.
     pub fn builder() -> AhoCorasickBuilder {
         AhoCorasickBuilder::new()
     }
 
-    /// Whether a pattern occurs. Panics where [`AhoCorasick::try_find`] would return an error.
+    /// Returns whether a pattern occurs in the input. Panics where [`AhoCorasick::try_find`] would return an error.
     pub fn is_match<'h, I: Into<Input<'h>>>(&self, input: I) -> bool {
         let input = input.into();
         let answer = self.handle.is_match(input.haystack(), &input.raw_span());
         self.supported(answer.map_err(|refusal| self.error(refusal))) && !input.is_done()
     }
 
-    /// The match that is picked. Panics where [`AhoCorasick::try_find`] returns an error.
+    /// Returns the match that the match kind picks, or `None` where no pattern occurs. Panics where
+    /// [`AhoCorasick::try_find`] returns an error.
     pub fn find<'h, I: Into<Input<'h>>>(&self, input: I) -> Option<Match> {
         self.supported(self.try_find(input))
     }
 
-    /// The matches one after another that don't overlap: what is picked, then what is picked behind it, and so on. Panics
-    /// where [`AhoCorasick::try_find_iter`] returns an error.
+    /// Returns an iterator over matches that don't overlap: the one that is picked, then the one that is picked after it, and
+    /// so on. Panics where [`AhoCorasick::try_find_iter`] returns an error.
     pub fn find_iter<'a, 'h, I: Into<Input<'h>>>(&'a self, input: I) -> FindIter<'a, 'h> {
         self.supported(self.try_find_iter(input))
     }
 
-    /// Every occurrence. Panics where [`AhoCorasick::try_find_overlapping_iter`] returns an error.
+    /// Returns an iterator over all occurrences. Panics where [`AhoCorasick::try_find_overlapping_iter`] returns an error.
     pub fn find_overlapping_iter<'a, 'h, I: Into<Input<'h>>>(&'a self, input: I) -> FindOverlappingIter<'a, 'h> {
         self.supported(self.try_find_overlapping_iter(input))
     }
 
-    /// The match that is picked. An error says that the input is anchored, or isn't, and that the start kind doesn't
-    /// support it.
+    /// Returns what [`AhoCorasick::find`] does. It is an error if the start kind doesn't support the input: an anchored or an
+    /// unanchored one.
     pub fn try_find<'h, I: Into<Input<'h>>>(&self, input: I) -> Result<Option<Match>, MatchError> {
         let input = input.into();
         let found = self.handle.find(input.haystack(), &input.raw_span()).map_err(|refusal| self.error(refusal))?;
         Ok(found.filter(|_| !input.is_done()).map(Match::found))
     }
 
-    /// The matches one after another that don't overlap. Errors are those of [`AhoCorasick::try_find`].
+    /// Returns what [`AhoCorasick::find_iter`] does. The errors are those of [`AhoCorasick::try_find`].
     pub fn try_find_iter<'a, 'h, I: Into<Input<'h>>>(&'a self, input: I) -> Result<FindIter<'a, 'h>, MatchError> {
         let input = input.into();
         self.check_start(&input)?;
         Ok(FindIter::new(&self.handle, &input))
     }
 
-    /// Every occurrence. An error says that the input is anchored, that the start kind doesn't support unanchored searches,
-    /// or that the match kind isn't [`MatchKind::Standard`].
+    /// Returns what [`AhoCorasick::find_overlapping_iter`] does. The errors are those of [`AhoCorasick::try_find`]; it is
+    /// also an error if the match kind isn't [`MatchKind::Standard`], or if the input is anchored.
     pub fn try_find_overlapping_iter<'a, 'h, I: Into<Input<'h>>>(
         &'a self,
         input: I,
@@ -217,7 +219,7 @@ impl AhoCorasick {
         Ok(FindOverlappingIter::new(&self.handle, &input))
     }
 
-    /// The engine that serves.
+    /// Returns the engine that the searcher uses.
     pub fn kind(&self) -> AhoCorasickKind {
         match self.facts.engine {
             1 => AhoCorasickKind::NoncontiguousNFA,
@@ -226,7 +228,7 @@ impl AhoCorasick {
         }
     }
 
-    /// Which searches are supported.
+    /// Returns which searches are supported.
     pub fn start_kind(&self) -> StartKind {
         match self.facts.start_kind {
             0 => StartKind::Unanchored,
@@ -235,7 +237,7 @@ impl AhoCorasick {
         }
     }
 
-    /// Which of several overlapping occurrences is picked.
+    /// Returns which of several overlapping occurrences is the match.
     pub fn match_kind(&self) -> MatchKind {
         match self.facts.match_kind {
             0 => MatchKind::Standard,
@@ -244,27 +246,27 @@ impl AhoCorasick {
         }
     }
 
-    /// The length of the shortest pattern, and `usize::MAX` where there is none.
+    /// Returns the length of the shortest pattern, or `usize::MAX` where there is none.
     pub fn min_pattern_len(&self) -> usize {
         self.facts.shortest
     }
 
-    /// The length of the longest pattern, and 0 where there is none.
+    /// Returns the length of the longest pattern, or 0 where there is none.
     pub fn max_pattern_len(&self) -> usize {
         self.facts.longest
     }
 
-    /// The number of patterns.
+    /// Returns the number of patterns.
     pub fn patterns_len(&self) -> usize {
         self.facts.patterns
     }
 
-    /// How many bytes the searcher takes on the heap, about.
+    /// Returns how many bytes of memory the searcher takes, about.
     pub fn memory_usage(&self) -> usize {
         self.facts.memory
     }
 
-    /// Refuses what the library refuses. An iterator is checked here, since it calls the library for its first match only.
+    /// Refuses what the library refuses. An iterator is checked here: it first calls the library for its first match.
     fn check_start(&self, input: &Input<'_>) -> Result<(), MatchError> {
         match (self.start_kind(), input.get_anchored()) {
             (StartKind::Unanchored, Anchored::Yes) => Err(self.error(Refusal::Anchored)),
@@ -277,7 +279,7 @@ impl AhoCorasick {
         MatchError::of(refusal, self.match_kind())
     }
 
-    /// What a call without `try_` makes of a refusal: a fault of the program.
+    /// What a call without `try_` makes of an error: a panic.
     #[track_caller]
     pub(crate) fn supported<T>(&self, answer: Result<T, MatchError>) -> T {
         answer.unwrap_or_else(|error| panic!("{error}"))

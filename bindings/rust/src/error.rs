@@ -1,4 +1,4 @@
-//! Refusals of a build and of a search.
+//! Errors of a build and of a search.
 use crate::ffi::Refusal;
 use crate::search::MatchKind;
 use std::error::Error;
@@ -32,8 +32,8 @@ impl fmt::Display for BuildError {
 
 impl Error for BuildError {}
 
-/// Why a searcher refuses a search. That depends on how it was built and on the [`Input`](crate::Input)'s settings, and
-/// never on the haystack.
+/// Why a searcher refuses a search. It depends on the settings of the searcher and of the [`Input`](crate::Input), and not
+/// on the haystack.
 #[derive(Clone, Debug, PartialEq, Eq)]
 pub struct MatchError(MatchErrorKind);
 
@@ -63,7 +63,7 @@ impl MatchError {
         })
     }
 
-    /// The reason.
+    /// Returns the reason.
     pub fn kind(&self) -> &MatchErrorKind {
         &self.0
     }

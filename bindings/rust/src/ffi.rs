@@ -1,7 +1,7 @@
 //! The exports of the proved library, and a safe type over them. No other module has unsafe code.
 use std::ptr::null_mut;
 
-/// What a call returns, if it isn't that something was found or not.
+/// Why a call did nothing.
 #[derive(Clone, Copy, Debug, PartialEq, Eq)]
 pub(crate) enum Refusal {
     Arguments,
@@ -12,7 +12,7 @@ pub(crate) enum Refusal {
     Overlapping,
 }
 
-/// `Ok` says whether something was found.
+/// Turns a status into whether something was found, or into the reason why the call did nothing.
 fn answer(status: i32) -> Result<bool, Refusal> {
     match status {
         0 => Ok(false),

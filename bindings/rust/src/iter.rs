@@ -4,7 +4,7 @@ use crate::AhoCorasick;
 use crate::ffi::{self, Cursor, Handle, Refusal};
 use crate::search::{Input, Match};
 
-/// How many matches are looked for at once: enough that a call costs little beside them.
+/// How many matches one call of the library may find. The cost of a call is then small beside theirs.
 const BATCH: usize = 128;
 
 /// One of the two calls of the library that fill a batch.
@@ -17,7 +17,7 @@ struct Batches<'a, 'h> {
     haystack: &'h [u8],
     span: ffi::Span,
     cursor: Cursor,
-    /// Whether there may be matches behind those of the batch.
+    /// Whether more matches may follow those of the batch.
     goes_on: bool,
     taken: usize,
     filled: usize,
@@ -82,7 +82,7 @@ impl Iterator for FindIter<'_, '_> {
         self.0.next()
     }
 
-    /// Where no match was taken yet the library counts them, and hands none over.
+    /// If no match was taken yet, the library counts them without writing them down.
     fn count(self) -> usize {
         let Batches { handle, haystack, ref span, filled, goes_on, .. } = self.0;
         if filled == 0 && goes_on {

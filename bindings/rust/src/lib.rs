@@ -1,5 +1,5 @@
-//! Finds many patterns at once in a haystack. The searcher is a static library in which every function is proved; this
-//! crate is its safe Rust side. Names and calls are those of the crate `aho-corasick` 1.1.5.
+//! Searches for many patterns at once. The searcher is a static library in which every function is proved; this crate is
+//! safe Rust over it, with the names and calls of the crate `aho-corasick` 1.1.5.
 //!
 //! ```
 //! use aho_corasick_rattle::AhoCorasick;
@@ -13,12 +13,11 @@
 //!
 //! What differs from that crate:
 //!
-//! - A searcher and its clones stay on one thread. They are neither `Send` nor `Sync`, since nothing is proved about
-//!   threads. Each thread may build its own.
-//! - [`AhoCorasickBuilder::build`] returns an error where there is no memory, and stops no program.
-//! - An iterator looks for up to 128 matches at once. So its first item may come after most of the haystack was read; for
-//!   one match take [`AhoCorasick::find`]. In an overlapping search each 128 matches cost as many bytes that are read again
-//!   as the longest pattern has.
+//! - Searchers are neither `Send` nor `Sync`, since nothing is proved about threads. Each thread may build its own.
+//! - [`AhoCorasickBuilder::build`] returns an error where there is no memory for the searcher.
+//! - An iterator looks for up to 128 matches at once, so its first item may come after most of the haystack was read. For
+//!   one match use [`AhoCorasick::find`]. In an overlapping search, each batch of 128 matches reads as many bytes again as
+//!   the longest pattern has.
 //! - With `earliest` each match kind picks what [`MatchKind::Standard`] does, prefilter or not.
 //! - Under a leftmost kind an empty pattern is picked like any other. An anchored walk may pass one byte after it.
 //! - [`AhoCorasick::is_match`] panics wherever [`AhoCorasick::find`] does, whatever the engine.

@@ -4,8 +4,8 @@ use crate::error::MatchError;
 use crate::search::Match;
 
 impl AhoCorasick {
-    /// The text with each match replaced by the text of its pattern. A match that begins or ends inside a character, which
-    /// only a pattern that is no text can, or the empty one, is left as it is. Panics where there aren't as many texts as
+    /// Returns the haystack with each match replaced by the text of its pattern. Matches that begin or end inside a character
+    /// are not replaced; only an empty pattern, or one that isn't UTF-8, has such. Panics if there aren't as many texts as
     /// patterns.
     ///
     /// ```
@@ -20,13 +20,14 @@ impl AhoCorasick {
         self.supported(self.try_replace_all(haystack, replace_with))
     }
 
-    /// The bytes with each match replaced by the bytes of its pattern. Panics where there aren't as many as patterns.
+    /// Returns the haystack with each match replaced by the bytes of its pattern. Panics if there aren't as many of these as
+    /// patterns.
     pub fn replace_all_bytes<B: AsRef<[u8]>>(&self, haystack: &[u8], replace_with: &[B]) -> Vec<u8> {
         self.supported(self.try_replace_all_bytes(haystack, replace_with))
     }
 
-    /// Appends the text to `dst`, and calls the closure where a match stands, with what matched. Where it returns false
-    /// the rest of the text is appended as it is. Matches that begin or end inside a character are left as they are.
+    /// Appends the haystack to `dst`, but calls the closure in place of each match, with the text that matched. Once it
+    /// returns false the rest is appended unchanged. Matches that begin or end inside a character are not replaced.
     pub fn replace_all_with<F>(&self, haystack: &str, dst: &mut String, replace_with: F)
     where
         F: FnMut(&Match, &str, &mut String) -> bool,
@@ -34,7 +35,7 @@ impl AhoCorasick {
         self.supported(self.try_replace_all_with(haystack, dst, replace_with))
     }
 
-    /// The same with bytes.
+    /// Does the same with bytes. All matches are replaced.
     pub fn replace_all_with_bytes<F>(&self, haystack: &[u8], dst: &mut Vec<u8>, replace_with: F)
     where
         F: FnMut(&Match, &[u8], &mut Vec<u8>) -> bool,
@@ -42,7 +43,7 @@ impl AhoCorasick {
         self.supported(self.try_replace_all_with_bytes(haystack, dst, replace_with))
     }
 
-    /// [`AhoCorasick::replace_all`]; an error says that the searcher doesn't support unanchored searches.
+    /// [`AhoCorasick::replace_all`]. It is an error if the searcher supports anchored searches only.
     pub fn try_replace_all<B: AsRef<str>>(&self, haystack: &str, replace_with: &[B]) -> Result<String, MatchError> {
         let mut replaced = String::with_capacity(haystack.len());
         let texts = self.texts(replace_with);
@@ -53,7 +54,7 @@ impl AhoCorasick {
         Ok(replaced)
     }
 
-    /// [`AhoCorasick::replace_all_bytes`]; an error says that the searcher doesn't support unanchored searches.
+    /// [`AhoCorasick::replace_all_bytes`]. It is an error if the searcher supports anchored searches only.
     pub fn try_replace_all_bytes<B: AsRef<[u8]>>(
         &self,
         haystack: &[u8],
@@ -68,7 +69,7 @@ impl AhoCorasick {
         Ok(replaced)
     }
 
-    /// [`AhoCorasick::replace_all_with`]; an error says that the searcher doesn't support unanchored searches.
+    /// [`AhoCorasick::replace_all_with`]. It is an error if the searcher supports anchored searches only.
     pub fn try_replace_all_with<F>(
         &self,
         haystack: &str,
@@ -93,7 +94,7 @@ impl AhoCorasick {
         Ok(())
     }
 
-    /// [`AhoCorasick::replace_all_with_bytes`]; an error says that the searcher doesn't support unanchored searches.
+    /// [`AhoCorasick::replace_all_with_bytes`]. It is an error if the searcher supports anchored searches only.
     pub fn try_replace_all_with_bytes<F>(
         &self,
         haystack: &[u8],
@@ -115,7 +116,7 @@ impl AhoCorasick {
         Ok(())
     }
 
-    /// A text for each pattern.
+    /// Checks that there is a text for each pattern.
     fn texts<'t, B>(&self, replace_with: &'t [B]) -> &'t [B] {
         assert_eq!(replace_with.len(), self.patterns_len(), "replacement needs one text for each pattern");
         replace_with
