@@ -76,7 +76,7 @@ typedef struct ac_span { size_t start, end; uint32_t anchored, earliest; } ac_sp
 #define AC_WHOLE(haystack_len) { 0, (haystack_len), 0, 0 }
 
 typedef struct ac_match { size_t pattern, start, end; } ac_match;
-/* How far a walk or a listing has come. {span.start, 0} begins one; any numbers are safe. */
+/* How far a walk or a listing has come. {0, 0} begins one; any numbers are safe. */
 typedef struct ac_cursor { size_t at, given; } ac_cursor;
 /* engine is never AC_AUTO. Without patterns shortest is SIZE_MAX, and longest is 0. */
 typedef struct ac_facts { size_t patterns, shortest, longest, memory; uint32_t engine, match_kind, start_kind; } ac_facts;
