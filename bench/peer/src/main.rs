@@ -1,21 +1,17 @@
 //! `peer FOLDER TIMES` measures the Rust binding beside the Rust crate aho-corasick 0.7.19, over the haystacks and pattern
 //! sets that ../haystacks.py wrote to a folder. Both run alternately, that many times, and the best time of each counts.
 use aho_corasick as peer;
-use aho_corasick_rattle::{AhoCorasick, AhoCorasickKind};
+use aho_corasick_rattle::{AhoCorasick, AhoCorasickKind, Match};
 use std::hint::black_box;
-use std::path::Path;
+use std::path::{Path, PathBuf};
 use std::time::Instant;
 use std::{env, fs};
 
-/// Runs two pieces of work alternately, and returns the least seconds of each.
-fn best<A, B>(times: usize, mut ours: impl FnMut() -> A, mut theirs: impl FnMut() -> B) -> (f64, f64) {
-    let (mut our_best, mut their_best) = (f64::MAX, f64::MAX);
-    for _ in 0..times {
-        our_best = our_best.min(seconds(&mut ours));
-        their_best = their_best.min(seconds(&mut theirs));
-    }
-    (our_best, their_best)
-}
+/// The seconds of the binding, and those of the crate.
+type Times = (f64, f64);
+
+/// How many pieces of 16 bytes are searched one by one.
+const PIECES: usize = 1 << 16;
 
 fn seconds<A>(work: &mut impl FnMut() -> A) -> f64 {
     let began = Instant::now();
@@ -23,135 +19,153 @@ fn seconds<A>(work: &mut impl FnMut() -> A) -> f64 {
     began.elapsed().as_secs_f64()
 }
 
-/// How the two searchers of a row are built.
+/// Runs two pieces of work alternately, and returns the least time of each.
+fn best<A, B>(times: usize, mut one: impl FnMut() -> A, mut other: impl FnMut() -> B) -> Times {
+    (0..times).fold((f64::MAX, f64::MAX), |best, _| (best.0.min(seconds(&mut one)), best.1.min(seconds(&mut other))))
+}
+
+/// Looks at each match.
+fn sum(matches: impl Iterator<Item = Match>) -> usize {
+    matches.fold(0, |sum, m| sum.wrapping_mul(3).wrapping_add(m.pattern().as_usize() ^ m.start() ^ m.end()))
+}
+
+fn sum_of_peer(matches: impl Iterator<Item = peer::Match>) -> usize {
+    matches.fold(0, |sum, m| sum.wrapping_mul(3).wrapping_add(m.pattern() ^ m.start() ^ m.end()))
+}
+
+/// Which engines a row compares. Those that the builders choose have prefilters, and the others none.
 #[derive(Clone, Copy)]
 struct Engine {
     name: &'static str,
-    ours: Option<AhoCorasickKind>,
-    their_dfa: bool,
-    chosen: bool,
+    kind: Option<AhoCorasickKind>,
+    peer_is_dfa: bool,
 }
 
-/// What is chosen has its prefilters; a named engine is measured without.
 const ENGINES: [Engine; 4] = [
-    Engine { name: "chosen", ours: None, their_dfa: false, chosen: true },
-    Engine { name: "DFA", ours: Some(AhoCorasickKind::DFA), their_dfa: true, chosen: false },
-    Engine { name: "contiguous NFA", ours: Some(AhoCorasickKind::ContiguousNFA), their_dfa: false, chosen: false },
-    Engine {
-        name: "noncontiguous NFA",
-        ours: Some(AhoCorasickKind::NoncontiguousNFA),
-        their_dfa: false,
-        chosen: false,
-    },
+    Engine { name: "chosen", kind: None, peer_is_dfa: false },
+    Engine { name: "DFA", kind: Some(AhoCorasickKind::DFA), peer_is_dfa: true },
+    Engine { name: "contiguous NFA", kind: Some(AhoCorasickKind::ContiguousNFA), peer_is_dfa: false },
+    Engine { name: "noncontiguous NFA", kind: Some(AhoCorasickKind::NoncontiguousNFA), peer_is_dfa: false },
 ];
 
 impl Engine {
-    fn build_ours(&self, patterns: &[&[u8]]) -> AhoCorasick {
+    fn build(&self, patterns: &[&[u8]]) -> AhoCorasick {
         let mut builder = AhoCorasick::builder();
-        builder.kind(self.ours).prefilter(self.chosen).build(patterns).expect("patterns that fit")
+        builder.kind(self.kind).prefilter(self.kind.is_none()).build(patterns).expect("patterns that fit")
     }
 
-    fn build_theirs(&self, patterns: &[&[u8]]) -> peer::AhoCorasick {
+    fn build_peer(&self, patterns: &[&[u8]]) -> peer::AhoCorasick {
         let mut builder = peer::AhoCorasickBuilder::new();
-        if self.chosen {
-            builder.auto_configure(patterns);
-        } else {
-            builder.dfa(self.their_dfa).prefilter(false);
-        }
+        match self.kind {
+            None => builder.auto_configure(patterns),
+            Some(_) => builder.dfa(self.peer_is_dfa).prefilter(false),
+        };
         builder.build(patterns)
     }
 }
 
-/// Adds up all matches, so that each of them is looked at.
-fn sum_ours(matches: impl Iterator<Item = aho_corasick_rattle::Match>) -> usize {
-    matches.fold(0, |sum, m| sum.wrapping_mul(3).wrapping_add(m.pattern().as_usize() ^ m.start() ^ m.end()))
+/// What the searches of a row take.
+struct Row<'a> {
+    haystack: &'a [u8],
+    texts: Vec<&'a str>,
+    ours: AhoCorasick,
+    peer: peer::AhoCorasick,
+    times: usize,
 }
 
-fn sum_theirs(matches: impl Iterator<Item = peer::Match>) -> usize {
-    matches.fold(0, |sum, m| sum.wrapping_mul(3).wrapping_add(m.pattern() ^ m.start() ^ m.end()))
-}
-
-/// A table's row of ratios: how many times as fast as the crate the binding is.
-fn print_ratios(name: &str, engine: Engine, haystack: &[u8], patterns: &[&[u8]], times: usize) {
-    let (ours, theirs) = (engine.build_ours(patterns), engine.build_theirs(patterns));
-    assert_eq!(sum_ours(ours.find_iter(haystack)), sum_theirs(theirs.find_iter(haystack)), "{name}");
-    let texts = vec!["<>"; patterns.len()];
-    let walk = best(times, || sum_ours(ours.find_iter(haystack)), || sum_theirs(theirs.find_iter(haystack)));
-    let list = best(
-        times,
-        || sum_ours(ours.find_overlapping_iter(haystack)),
-        || sum_theirs(theirs.find_overlapping_iter(haystack)),
-    );
-    let replace =
-        best(times, || ours.replace_all_bytes(haystack, &texts), || theirs.replace_all_bytes(haystack, &texts));
-    let build = best(times, || engine.build_ours(patterns), || engine.build_theirs(patterns));
-    let pieces: Vec<&[u8]> = haystack.chunks_exact(16).take(1 << 16).collect();
-    let find = best(
-        times,
-        || pieces.iter().filter(|piece| ours.find(**piece).is_some()).count(),
-        || pieces.iter().filter(|piece| theirs.find(piece).is_some()).count(),
-    );
-    let short = best(
-        times,
-        || pieces.iter().map(|piece| sum_ours(ours.find_iter(*piece))).sum::<usize>(),
-        || pieces.iter().map(|piece| sum_theirs(theirs.find_iter(piece))).sum::<usize>(),
-    );
-    let speed = haystack.len() as f64 / 1e6 / walk.0;
-    print!("| {name} | {} | {speed:.0}", engine.name);
-    for (ours, theirs) in [walk, list, replace, build] {
-        print!(" | {:.2}", theirs / ours);
+impl Row<'_> {
+    fn walk(&self) -> Times {
+        let peer = || sum_of_peer(self.peer.find_iter(self.haystack));
+        best(self.times, || sum(self.ours.find_iter(self.haystack)), peer)
     }
-    for (ours, theirs) in [find, short] {
-        let each = 1e9 / pieces.len() as f64;
-        print!(" | {:.0} ({:.0})", ours * each, theirs * each);
+
+    fn overlapping(&self) -> Times {
+        let peer = || sum_of_peer(self.peer.find_overlapping_iter(self.haystack));
+        best(self.times, || sum(self.ours.find_overlapping_iter(self.haystack)), peer)
+    }
+
+    fn replace(&self) -> Times {
+        let peer = || self.peer.replace_all_bytes(self.haystack, &self.texts);
+        best(self.times, || self.ours.replace_all_bytes(self.haystack, &self.texts), peer)
+    }
+
+    fn pieces(&self) -> impl Iterator<Item = &[u8]> {
+        self.haystack.chunks_exact(16).cycle().take(PIECES)
+    }
+
+    fn find_in_pieces(&self) -> Times {
+        let peer = || self.pieces().filter(|piece| self.peer.find(piece).is_some()).count();
+        best(self.times, || self.pieces().filter(|piece| self.ours.find(*piece).is_some()).count(), peer)
+    }
+
+    fn walk_pieces(&self) -> Times {
+        let peer = || self.pieces().fold(0, |all, piece| all ^ sum_of_peer(self.peer.find_iter(piece)));
+        best(self.times, || self.pieces().fold(0, |all, piece| all ^ sum(self.ours.find_iter(piece))), peer)
+    }
+}
+
+/// Prints how many times as fast as the crate the binding is, and the nanoseconds of both for a piece of 16 bytes.
+fn print_row(name: &str, engine: Engine, haystack: &[u8], patterns: &[&[u8]], times: usize) {
+    let texts = vec!["<>"; patterns.len()];
+    let row = Row { haystack, texts, ours: engine.build(patterns), peer: engine.build_peer(patterns), times };
+    assert_eq!(sum(row.ours.find_iter(haystack)), sum_of_peer(row.peer.find_iter(haystack)), "{name}");
+    let build = best(times, || engine.build(patterns), || engine.build_peer(patterns));
+    let walk = row.walk();
+    print!("| {name} | {} | {:.0}", engine.name, haystack.len() as f64 / 1e6 / walk.0);
+    for (ours, peer) in [walk, row.overlapping(), row.replace(), build] {
+        print!(" | {:.2}", peer / ours);
+    }
+    for (ours, peer) in [row.find_in_pieces(), row.walk_pieces()] {
+        print!(" | {:.0}, {:.0}", ours * 1e9 / PIECES as f64, peer * 1e9 / PIECES as f64);
     }
     println!(" |");
 }
 
-/// Prints what matches cost that cross the boundary: a walk that looks at each, and a count inside the library.
-fn print_boundary(distance: usize, length: usize, times: usize) {
-    let haystack: Vec<u8> = (0..length).map(|at| if at % distance == distance - 1 { b'!' } else { b'.' }).collect();
-    let mut builder = AhoCorasick::builder();
-    let searcher = builder.kind(Some(AhoCorasickKind::DFA)).prefilter(false).build(["!", "?"]).expect("two patterns");
-    let (walk, count) =
-        best(times, || sum_ours(searcher.find_iter(&haystack)), || searcher.find_iter(&haystack).count());
-    let each = 1e9 / (length / distance) as f64;
-    let megabytes = length as f64 / 1e6;
+fn sets_in(folder: &Path) -> Vec<PathBuf> {
+    let mut sets: Vec<_> = fs::read_dir(folder).expect("a folder").map(|file| file.expect("a file").path()).collect();
+    sets.retain(|path| path.extension().is_some_and(|it| it == "pat"));
+    sets.sort();
+    sets
+}
+
+fn print_sets(folder: &Path, times: usize) {
     println!(
-        "| {distance} | {:.0} | {:.0} | {:.2} | {:.1} |",
-        megabytes / walk,
-        megabytes / count,
-        count / walk,
-        (walk - count) * each
+        "How many times as fast as the crate the binding is; and nanoseconds for 16 bytes, by the binding and by the crate.\n"
     );
+    println!("| Patterns | Engine | Walk, MB/s | Walk | Overlapping | Replace | Build | Find in 16 | Walk in 16 |");
+    println!("|---|---|---|---|---|---|---|---|---|");
+    for path in sets_in(folder) {
+        let name = path.file_stem().and_then(|it| it.to_str()).expect("a name of ASCII");
+        let haystack = name.split('-').next().expect("the name of a haystack");
+        let haystack = fs::read(folder.join(haystack).with_extension("hay")).expect("a haystack");
+        let patterns = fs::read(&path).expect("a list of patterns");
+        let patterns: Vec<&[u8]> = patterns.trim_ascii_end().split(|&byte| byte == b'\n').collect();
+        for engine in ENGINES {
+            print_row(name, engine, &haystack, &patterns, times);
+        }
+    }
+}
+
+/// Prints what it costs that matches cross the boundary: a walk that looks at each, and a count inside the library.
+fn print_boundary(times: usize) {
+    println!("\nA walk, whose matches cross the boundary in batches, and a count inside the library.\n");
+    println!("| Bytes from match to match | Walk, MB/s | Count, MB/s | Walk to count |");
+    println!("|---|---|---|---|");
+    let mut builder = AhoCorasick::builder();
+    let builder = builder.kind(Some(AhoCorasickKind::DFA)).prefilter(false);
+    let searcher = builder.build(["!", "?"]).expect("two patterns");
+    for distance in [8, 64, 1 << 16] {
+        let haystack = [&vec![b'.'; distance - 1], &b"!"[..]].concat().repeat((1 << 22) / distance);
+        let count = || searcher.find_iter(&haystack).count();
+        let (walk, count) = best(times, || sum(searcher.find_iter(&haystack)), count);
+        let megabytes = haystack.len() as f64 / 1e6;
+        println!("| {distance} | {:.0} | {:.0} | {:.2} |", megabytes / walk, megabytes / count, count / walk);
+    }
 }
 
 fn main() {
     let arguments: Vec<String> = env::args().collect();
-    let (folder, times) = (Path::new(&arguments[1]), arguments[2].parse().expect("a number of times"));
-    let mut sets: Vec<_> = fs::read_dir(folder).unwrap().map(|file| file.unwrap().path()).collect();
-    sets.retain(|path| path.extension().is_some_and(|it| it == "pat"));
-    sets.sort();
-    println!(
-        "The binding beside aho-corasick 0.7.19: how many times as fast it is, and nanoseconds of a call over 16 bytes (the crate's).\n"
-    );
-    println!("| Patterns | Engine | Walk, MB/s | Walk | Overlapping | Replace | Build | Find in 16 | Walk in 16 |");
-    println!("|---|---|---|---|---|---|---|---|---|");
-    let mut length = 0;
-    for path in sets {
-        let name = path.file_stem().unwrap().to_str().unwrap().to_owned();
-        let haystack = fs::read(folder.join(name.split('-').next().unwrap()).with_extension("hay")).unwrap();
-        let data = fs::read(&path).unwrap();
-        let patterns: Vec<&[u8]> = data.strip_suffix(b"\n").unwrap().split(|&byte| byte == b'\n').collect();
-        for engine in ENGINES {
-            print_ratios(&name, engine, &haystack, &patterns, times);
-        }
-        length = haystack.len();
-    }
-    println!("\nThe boundary: a walk whose matches cross it in batches, and a count inside the library.\n");
-    println!("| Bytes from match to match | Walk, MB/s | Count, MB/s | Walk to count | Nanoseconds a match |");
-    println!("|---|---|---|---|---|");
-    for distance in [8, 64, 1 << 16] {
-        print_boundary(distance, length.next_multiple_of(1 << 16), times);
-    }
+    let times = arguments[2].parse().expect("a number of times");
+    print_sets(Path::new(&arguments[1]), times);
+    print_boundary(times);
 }
