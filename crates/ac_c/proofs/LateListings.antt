@@ -6,7 +6,7 @@ use Rattle.ac_util.proofs.Lists.{IsIn-filter, IsIn-from_filter, IsOrdered-filter
 use Rattle.ac_util.proofs.Listing.{all-has, all-only, all-ordered}
 use Rattle.ac_c.specs.Batches.{ends_from}
 
--- what ends there or later passes, and nothing else
+-- what ends at a place or later passes, and nothing else
 pub ends_from-true : (at : ℕ) (m : Occurrence) → at ≤ m.end → ends_from at m ≡ true
 ends_from-true at m later = search (rules, tests)
 
@@ -24,23 +24,40 @@ before-apart x y a b =
     omega (arith, a.patterns ends starts, b.patterns (sym ends) (sym starts))
 
 -- what occurs in a span occurs in one that begins later, where it starts in that
-occurs-later : (q : Search) (start : ℕ) (m : Occurrence) → q.anchored ≡ No → Occurs q m → start ≤ m.start → Occurs (from q start) m
-occurs-later q start m free o later = record { numbered = o.numbered; from_low = later; as_long = o.as_long; to_high = o.to_high; reads = o.reads; at_low = λ yes. absurd (cc) }
+occurs-later : (q : Search) (start : ℕ) (m : Occurrence) → q.anchored ≡ No → Occurs q m → start ≤ m.start
+    → Occurs (from q start) m
+occurs-later q start m free o later = record {
+  numbered = o.numbered;
+  from_low = later;
+  as_long = o.as_long;
+  to_high = o.to_high;
+  reads = o.reads;
+  at_low = λ yes. absurd (cc);
+}
 
-occurs-earlier : (q : Search) (start : ℕ) (m : Occurrence) → q.anchored ≡ No → q.low ≤ start → Occurs (from q start) m → Occurs q m
-occurs-earlier q start m free low o = record { numbered = o.numbered; from_low = omega (arith, o.from_low); as_long = o.as_long; to_high = o.to_high; reads = o.reads; at_low = λ yes. absurd (cc) }
+-- and back
+occurs-earlier : (q : Search) (start : ℕ) (m : Occurrence) → q.anchored ≡ No → q.low ≤ start
+    → Occurs (from q start) m → Occurs q m
+occurs-earlier q start m free low o = record {
+  numbered = o.numbered;
+  from_low = omega (arith, o.from_low);
+  as_long = o.as_long;
+  to_high = o.to_high;
+  reads = o.reads;
+  at_low = λ yes. absurd (cc);
+}
 
--- the listing of what ends at a place or later is that of a span that begins later, where all of that starts in it
+-- where all that ends at a place or later starts in a span that begins later, the listing of that is the same from the place
+-- on
 pub listing-later : (q : Search) (at start : ℕ) → q.anchored ≡ No → q.low ≤ start
     → ((m : Occurrence) → Occurs q m → at ≤ m.end → start ≤ m.start)
     → filter (ends_from at) (all (from q start)) ≡ filter (ends_from at) (all q)
 listing-later q at start free low late =
-    IsOrdered-unique IsBefore before-apart (filter (ends_from at) (all (from q start))) (filter (ends_from at) (all q))
-    (λ m h. let i = IsIn-from_filter (ends_from at) m (all (from q start)) h in
-    IsIn-filter (ends_from at) m (all q) (all-has q m (occurs-earlier q start m free low (all-only (from q start) m i.0))) i.1)
-    (λ m h. let i = IsIn-from_filter (ends_from at) m (all q) h in
-    let o = all-only q m i.0 in
-    IsIn-filter (ends_from at) m (all (from q start)) (all-has (from q start) m
-    (occurs-later q start m free o (late m o (ends_from-only at m i.1)))) i.1)
-    (IsOrdered-filter IsBefore (ends_from at) (all (from q start)) (all-ordered (from q start)))
-    (IsOrdered-filter IsBefore (ends_from at) (all q) (all-ordered q))
+    let p = from q start in let ends = ends_from at in
+    IsOrdered-unique IsBefore before-apart (filter ends (all p)) (filter ends (all q))
+    (λ m h. let i = IsIn-from_filter ends m (all p) h in
+    IsIn-filter ends m (all q) (all-has q m (occurs-earlier q start m free low (all-only p m i.0))) i.1)
+    (λ m h. let i = IsIn-from_filter ends m (all q) h in let o = all-only q m i.0 in
+    let starts = late m o (ends_from-only at m i.1) in
+    IsIn-filter ends m (all p) (all-has p m (occurs-later q start m free o starts)) i.1)
+    (IsOrdered-filter IsBefore ends (all p) (all-ordered p)) (IsOrdered-filter IsBefore ends (all q) (all-ordered q))

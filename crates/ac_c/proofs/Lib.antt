@@ -1,6 +1,8 @@
 -- The lemmas of numbers, texts, finds, walks and listings, and those of the proofs by hand (`Ownership`).
+pub mod FewAtEnd
 pub mod FoundLemmas
 pub mod LateListings
+pub mod ListLemmas
 pub mod ListingBatches
 pub mod ListingStarts
 pub mod ListingSteps

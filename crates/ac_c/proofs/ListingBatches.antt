@@ -10,6 +10,11 @@ use Rattle.ac_c.specs.Searches.{match_of, past}
 use Rattle.ac_c.proofs.LateListings.{listing-later}
 use Rattle.ac_c.proofs.ListingStarts.{listed-past, starts-late}
 
+-- so many as were given at a cursor were passed over in the listing of a search
+abbrev pub Passes : Search → Cursor → Cursor → Type 0
+Passes p cursor passed =
+    listing_from p passed ≡ drop cursor.given (listing_from p (record { at = cursor.at; given = 0 }))
+
 -- how far a batch has come, once all items before the cursor were passed over, and what was due was written
 pub record IsBatch (q : Search) (start : ℕ) (cursor passed here : Cursor) (out new_out : List FoundMatch) (filled : ℕ)
     : Type 0 where
@@ -18,8 +23,7 @@ pub record IsBatch (q : Search) (start : ℕ) (cursor passed here : Cursor) (out
   pub near : start ≤ max (cursor.at - longest_len q.patterns) q.low
   pub onward : cursor.at ≤ passed.at
   pub further : passed.at ≤ here.at
-  pub passes : listing_from (from q start) passed
-      ≡ drop cursor.given (listing_from (from q start) (record { at = cursor.at; given = 0 }))
+  pub passes : Passes (from q start) cursor passed
   pub gives : Gives (listing_from (from q start)) passed here out new_out filled
 
 module _ (q : Search) (start : ℕ) (cursor passed here : Cursor) (out new_out : List FoundMatch) (filled : ℕ)
@@ -34,11 +38,15 @@ module _ (q : Search) (start : ℕ) (cursor passed here : Cursor) (out new_out :
   began : listing_from (from q start) passed ≡ listing_from q cursor
   began = batch.passes ∙ same-from cursor (omega arith)
 
+  -- what was written, and then these
+  abbrev written : List Occurrence → List Occurrence
+  written ms = map match_of (take filled new_out) ++ ms
+
   -- a batch that was filled
   pub batch-filled : Gives (listing_from q) cursor here out new_out filled
   batch-filled =
       let same = same-from here (let a = batch.onward in let b = batch.further in omega arith) in record {
-        given = ap (λ (ms : List Occurrence). map match_of (take filled new_out) ++ ms) (sym same) ∙ batch.gives.given ∙ began;
+        given = ap written (sym same) ∙ batch.gives.given ∙ began;
         kept = batch.gives.kept;
         fits = batch.gives.fits;
         ends = λ short. sym same ∙ batch.gives.ends short;
@@ -49,8 +57,7 @@ module _ (q : Search) (start : ℕ) (cursor passed here : Cursor) (out new_out :
       → Gives (listing_from q) cursor (past haystack) out new_out filled
   batch-ended haystack within short =
       let nothing = listed-past q (length haystack + 1) 0 (omega arith) in record {
-        given = ap (λ (ms : List Occurrence). map match_of (take filled new_out) ++ ms) (nothing ∙ sym (batch.gives.ends short))
-            ∙ batch.gives.given ∙ began;
+        given = ap written (nothing ∙ sym (batch.gives.ends short)) ∙ batch.gives.given ∙ began;
         kept = batch.gives.kept;
         fits = batch.gives.fits;
         ends = λ _. nothing;

@@ -1,12 +1,13 @@
 -- From where the listing is made again, and where it ends.
-use Rattle.std.proofs.Common.{◌≡◌, ℕ, ◌+◌, ◌-◌, ◌<◌, ◌≤◌, Bool, List, [], ◌∷◌, drop, filter, max, refl, ap, sym, ◌∙◌, arith, Option, None, Some}
-use Rattle.std.proofs.lemmas.List.{drop-drop, drop_all}
+use Rattle.std.proofs.Common.{◌≡◌, ℕ, ◌-◌, ◌<◌, ◌≤◌, Bool, List, [], ◌∷◌, drop, filter, max, refl, ap, ◌∙◌, arith, Option, None, Some}
+use Rattle.std.proofs.lemmas.List.{drop_all}
 use Rattle.ac_util.specs.declared.search.Anchored.{Anchored}
 use Rattle.ac_util.specs.declared.search.Anchored.TheVariants.{No, Yes}
 use Rattle.ac_util.specs.declared.search.MatchKind.{MatchKind}
 use Rattle.ac_util.specs.declared.search.StartKind.{StartKind}
 use Rattle.ac_util.specs.declared.error.MatchError.{MatchError}
-use Rattle.ac_util.specs.Built.{OverlappingIterator, first_refusal, kind_refusal, refusal, start_refusal}
+use Rattle.ac_util.specs.declared.error.MatchError.TheVariants.{InvalidInputAnchored}
+use Rattle.ac_util.specs.Built.{OverlappingIterator, empty_refusal, first_refusal, kind_refusal, refusal, start_refusal}
 use Rattle.ac_util.specs.Patterns.{longest_len}
 use Rattle.ac_util.specs.Prelude.{all, Occurrence, Occurs, Search}
 use Rattle.ac_util.proofs.Lists.{filter-none}
@@ -26,7 +27,9 @@ third-refuses (Some f) two e more h = absurd (cc)
 pub not-anchored : (start : StartKind) (kind : MatchKind) (anchored : Anchored) (has_empty : Bool)
     → refusal start kind (OverlappingIterator anchored) has_empty ≡ None → anchored ≡ No
 not-anchored start kind No has_empty h = refl
-not-anchored start kind Yes has_empty h = absurd (third-refuses (start_refusal start Yes) (kind_refusal kind (OverlappingIterator Yes)) MatchError.InvalidInputAnchored _ h)
+not-anchored start kind Yes has_empty h =
+    let refused = third-refuses (start_refusal start Yes) (kind_refusal kind (OverlappingIterator Yes)) in
+    absurd (refused InvalidInputAnchored (empty_refusal (OverlappingIterator Yes) has_empty ∷ []) h)
 
 -- what ends at a place or later starts no earlier than the longest pattern's length before it
 pub starts-late : (q : Search) (at start : ℕ) → start ≤ max (at - longest_len q.patterns) q.low
@@ -37,14 +40,6 @@ starts-late q at start near m o late =
 -- nothing is listed past the span
 pub listed-past : (q : Search) (at given : ℕ) → q.high < at → drop given (filter (ends_from at) (all q)) ≡ []
 listed-past q at given past =
-    ap (drop given) (filter-none (ends_from at) (all q) (λ m i. ends_from-false at m (let o = all-only q m i in omega (arith, o.to_high))))
-    ∙ drop_all given [] (omega arith)
-
--- one more of a list is passed over
-pub drop-next : {X : Type 0} (k : ℕ) (xs ys : List X) (x : X) → drop k xs ≡ x ∷ ys → drop (k + 1) xs ≡ ys
-drop-next k xs ys x e = sym (drop-drop 1 k xs) ∙ ap (drop 1) e
-
--- past its end nothing of it is left
-pub drop-end : {X : Type 0} (k n : ℕ) (xs : List X) → k ≤ n → drop k xs ≡ [] → drop n xs ≡ []
-drop-end k n xs more e =
-    ap (λ (i : ℕ). drop i xs) (omega arith) ∙ sym (drop-drop (n - k) k xs) ∙ ap (drop (n - k)) e ∙ drop_all (n - k) [] (omega arith)
+    let none = filter-none (ends_from at) (all q) (λ m i.
+    let o = all-only q m i in ends_from-false at m (omega (arith, o.to_high))) in
+    ap (drop given) none ∙ drop_all given [] (omega arith)

@@ -1,5 +1,5 @@
--- Words of the exports' contracts: settings by number, texts, what is asked and answered, and the statuses. Then those of
--- private functions, and what a handle and a reader own.
+-- Words of the exports' contracts: settings by number, texts, what is asked and answered, and the statuses. `Steps` has
+-- those of private functions, and `Ownership` what a handle and a reader own.
 pub mod Batches
 pub mod Opens
 pub mod Ownership

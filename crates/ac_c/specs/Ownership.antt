@@ -1,5 +1,5 @@
--- What a handle and a reader own. The value under a reader is shared for a lifetime of its own, and a reader is a part of
--- that lifetime's token.
+-- What a handle and a reader own. The value under a reader is shared for a lifetime of its own, and a reader is a part
+-- of that lifetime's token.
 use Rattle.std.specs.Prelude.{◌≡◌, ℕ, [], ◌∷◌}
 use base.FractionLaws.{Counts}
 use base.Fml.{Share, Fml, ftrue, fsep, fex, flft}

@@ -12,7 +12,7 @@ abbrev pub replaced_by : Searcher → List ℕ → List ℕ → List ℕ → Lis
 replaced_by searcher haystack bytes ends =
     replaced haystack (texts_in bytes 0 ends) (exchanged searcher.built haystack)
 
--- what is returned where there is memory: ARGUMENTS where the ends are none, or as many texts as patterns don't stand there
+-- what is returned where there is memory: ARGUMENTS where these are no ends, or aren't as many as the patterns
 abbrev pub replace_status : Searcher → List ℕ → List ℕ → ℤ
 replace_status searcher bytes ends =
     status_unless (are_ends (length bytes) 0 ends && (length ends == length searcher.built.patterns))
@@ -22,7 +22,7 @@ replace_status searcher bytes ends =
 abbrev pub IsOkOrMemory : ℤ → ℤ → Type 0
 IsOkOrMemory expected status = (status ≡ expected) ⊎ ((expected ≡ OK) × (status ≡ MEMORY))
 
--- `needed` is the length of the whole; where that fits the whole stands at the beginning of `out`, and nothing else changes
+-- `needed` is the length of the whole. Where that fits the whole stands at the beginning of `out`; nothing else changes
 pub record Puts (whole : List ℕ) (out new_out : List ℕ) (needed : ℕ) : Type 0 where
   pub needs : needed ≡ length whole
   pub fits : needed ≤ length out → new_out ≡ whole ++ drop needed out

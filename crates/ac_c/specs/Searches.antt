@@ -12,7 +12,12 @@ use Rattle.ac_c.specs.declared.search.Span.{Span}
 -- the span lies in the haystack, and its two flags are 0 or 1
 abbrev pub is_input : List ℕ → Span → Bool
 is_input haystack span =
-    nat_le span.start span.end && nat_le span.end (length haystack) && nat_le span.anchored 1 && nat_le span.earliest 1
+    nat_le span.start span.end && nat_le span.end (length haystack)
+    && nat_le span.anchored 1 && nat_le span.earliest 1
+
+-- a flag is set
+abbrev pub is_set : ℕ → Bool
+is_set flag = flag == 1
 
 -- the input that it asks for
 abbrev pub input_by : List ℕ → Span → InputView
@@ -20,8 +25,8 @@ input_by haystack span = record {
   haystack = haystack;
   start = span.start;
   end = span.end;
-  anchored = if span.anchored == 0 then No else Yes;
-  earliest = span.earliest == 1;
+  anchored = if is_set span.anchored then Yes else No;
+  earliest = is_set span.earliest;
 }
 
 -- the occurrence that a match of C is
@@ -46,4 +51,5 @@ past haystack = record { at = length haystack + 1; given = 0 }
 -- the cursor once one more occurrence was given, which ends at this place
 abbrev pub stepped : Cursor → ℕ → Cursor
 stepped cursor end =
-    if cursor.at == end then record { at = cursor.at; given = cursor.given + 1 } else record { at = end; given = 1 }
+    if cursor.at == end then record { at = cursor.at; given = cursor.given + 1 }
+    else record { at = end; given = 1 }

@@ -40,4 +40,5 @@ walk_status searcher haystack span =
 
 abbrev pub overlapping_status : Searcher → List ℕ → Span → ℤ
 overlapping_status searcher haystack span =
-    status_unless (is_input haystack span) (overlapping_iter_refusal searcher.built (input_by haystack span)) OK
+    status_unless (is_input haystack span)
+    (overlapping_iter_refusal searcher.built (input_by haystack span)) OK

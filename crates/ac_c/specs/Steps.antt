@@ -1,5 +1,5 @@
 -- Words of private functions: where an iterator stands, by a cursor.
-use Rattle.std.specs.Prelude.{◌≡◌, ◌⊎◌, ℕ, ◌≤◌, ◌++◌, All, List, filter, length, IfSome, Option, None, Some}
+use Rattle.std.specs.Prelude.{◌≡◌, ◌⊎◌, ℕ, ◌≤◌, ◌++◌, All, List, filter, length, IfSome, MatchResult, Option, None, Some, Result}
 use Rattle.ac_search.specs.Built.{Built, search_in}
 use Rattle.ac_search.specs.Input.{InputView}
 use Rattle.ac_search.specs.Iterators.{Walking}
@@ -8,8 +8,10 @@ use Rattle.ac_search.specs.Occurrence.{Occurrence, Search, from}
 use Rattle.ac_search.specs.Overlaps.{Overlapping}
 use Rattle.ac_search.specs.Pick.{order_of}
 use Rattle.ac_search.specs.Walk.{next_match}
+use Rattle.ac_search.specs.declared.MatchError.{MatchError}
 use Rattle.ac_c.specs.declared.search.Cursor.{Cursor}
-use Rattle.ac_c.specs.Batches.{ends_from, last_of, walk_from}
+use Rattle.ac_c.specs.declared.search.FoundMatch.{FoundMatch}
+use Rattle.ac_c.specs.Batches.{Gives, ends_from, last_of, walk_from}
 
 -- the matches of an input's walk that are left at a cursor
 abbrev pub walk_left : Built → InputView → Cursor → List Occurrence
@@ -30,13 +32,13 @@ pub record IsOfWalk (walking new_walking : Walking) : Type 0 where
   pub left : from new_walking.left 0 ≡ from walking.left 0
 
 -- the next match after the cursor was taken, or there is none, and the iterator has gone past it
-pub record HasTaken (walking : Walking) (cursor : Cursor) (found : Option Occurrence) (new_walking : Walking) : Type 0 where
+pub record HasTaken (walking : Walking) (cursor : Cursor) (found : Option Occurrence) (new_walking : Walking)
+    : Type 0 where
   pub next : found ≡ next_match walking.picking.order (from walking.left cursor.at) (last_of cursor)
   pub same : IsOfWalk walking new_walking
   pub beyond : IfSome found (λ m. (new_walking.left.low ≡ m.end) × (new_walking.last ≡ Some m.end))
 
--- what is left of a listing stands at a cursor: nothing that was passed over ends after it, and so many end at it as were
--- given there
+-- what is left of a listing stands at a cursor: nothing that was passed over ends after it, and `given` of that end at it
 pub record StandsIn (q : Search) (rest : List Occurrence) (at given : ℕ) : Type 0 where
   pub passed : List Occurrence
   pub listing : all q ≡ passed ++ rest
@@ -46,3 +48,10 @@ pub record StandsIn (q : Search) (rest : List Occurrence) (at given : ℕ) : Typ
 -- so does what the iterator of a listing has left
 abbrev pub ListingStandsAt : Overlapping → Cursor → Type 0
 ListingStandsAt listing cursor = StandsIn listing.search listing.rest cursor.at cursor.given
+
+-- a batch gives what was due where nothing refuses the search, and else it changes nothing in `out`
+abbrev pub GivesUnless : Option MatchError → (Cursor → List Occurrence) → Cursor → Cursor → List FoundMatch
+    → List FoundMatch → Result ℕ MatchError → Type 0
+GivesUnless refusal due cursor new_cursor out new_out result =
+    MatchResult result (λ filled. (refusal ≡ None) × Gives due cursor new_cursor out new_out filled)
+    (λ e. (refusal ≡ Some e) × (new_out ≡ out))

@@ -5,8 +5,8 @@ ghost use Rattle.ac_c.specs.Settings.{IsFactsOf, engines, match_kinds, start_kin
 use crate::reader::Reader;
 use ac_search::{AhoCorasickKind, MatchKind, StartKind};
 
-/// What a searcher is: how many patterns it has, the lengths of the shortest and of the longest one, about how many bytes of
-/// memory it takes, and the numbers of the engine that serves it, of its match kind and of its start kind.
+/// What a searcher is: how many patterns it has, the lengths of the shortest and of the longest one, about how many
+/// bytes of memory it takes, and the numbers of the engine that serves it, of its match kind and of its start kind.
 #[repr(C)]
 #[derive(Clone, Copy)]
 pub struct Facts {
@@ -19,7 +19,7 @@ pub struct Facts {
     pub start_kind: u32,
 }
 
-/// Writes what the searcher is. Nothing is promised about `memory`.
+/// Writes what a searcher is. Nothing is promised about `memory`.
 #[unsafe(no_mangle)]
 pub extern "C" fn ac_raw_facts(reader: &mut Reader, out: &mut Facts)
     ensures facts { IsFactsOf reader.old.searcher out.new }

@@ -8,10 +8,10 @@ use crate::search::{FoundMatch, Span};
 use crate::status::{ARGUMENTS, FOUND, OK, refusal_status};
 use ac_search::laws::answers_lie_inside;
 
-/// Writes the match that the match kind picks in the span to `out`.
+/// Writes the match that the match kind picks in a span to `out`.
 ///
-/// Returns `FOUND`, or `OK` where nothing occurs; `ARGUMENTS`, `ANCHORED` or `UNANCHORED`. Unless it is `FOUND`, `out` is
-/// as it was.
+/// Returns `FOUND`, or `OK` where nothing occurs; or `ARGUMENTS`, `ANCHORED` or `UNANCHORED`. Unless it is `FOUND`, `out`
+/// is as it was.
 #[unsafe(no_mangle)]
 pub extern "C" fn ac_raw_find(
     reader: &mut Reader,
@@ -20,7 +20,8 @@ pub extern "C" fn ac_raw_find(
     out: &mut FoundMatch,
 ) -> i32
     ensures status { result ≡ find_status reader.old.searcher haystack.now span.now }
-    ensures found { result ≡ FOUND → found_in reader.old.searcher haystack.now span.now ≡ Some (match_of out.new) }
+    ensures found { result ≡ FOUND
+        → found_in reader.old.searcher haystack.now span.now ≡ Some (match_of out.new) }
     ensures otherwise { result ≢ FOUND → out.new ≡ out.old }
     ensures reader { reader.new ≡ reader.old }
 {
@@ -37,8 +38,8 @@ pub extern "C" fn ac_raw_find(
     }
 }
 
-/// Returns the status that `ac_raw_find` returns: `FOUND` exactly if some pattern occurs in the span. It ends as soon as it
-/// knows of an occurrence.
+/// Returns the status that `ac_raw_find` returns: `FOUND` exactly if some pattern occurs in the span. The search ends as
+/// soon as it knows of an occurrence.
 #[unsafe(no_mangle)]
 pub extern "C" fn ac_raw_is_match(reader: &mut Reader, haystack: &[u8], span: &Span) -> i32
     ensures status { result ≡ find_status reader.old.searcher haystack.now span.now }
@@ -54,9 +55,9 @@ pub extern "C" fn ac_raw_is_match(reader: &mut Reader, haystack: &[u8], span: &S
     }
 }
 
-/// Writes how many matches a walk over the span has.
+/// Writes how many matches a walk over a span has to `count`.
 ///
-/// Returns `OK`; or `ARGUMENTS`, `ANCHORED` or `UNANCHORED`, and `count` is as it was.
+/// Returns `OK`; or `ARGUMENTS`, `ANCHORED` or `UNANCHORED`: then `count` is as it was.
 #[unsafe(no_mangle)]
 pub extern "C" fn ac_raw_count(
     reader: &mut Reader,

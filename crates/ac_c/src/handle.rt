@@ -15,8 +15,8 @@ use std::ptr::null_mut;
 
 pub mod raw_box;
 
-/// A searcher on the heap, or none where the address is null. C has it as a struct of the address alone, and moves it,
-/// but doesn't copy it.
+/// A searcher on the heap, or none where the address is null. C sees a struct of the address alone, and may move it, but
+/// not copy it.
 #[repr(C)]
 pub struct Handle {
     at: *mut u8,

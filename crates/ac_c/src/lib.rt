@@ -1,7 +1,7 @@
 //! The exports for C of `ac_search`, which searches for many patterns at once.
 //!
-//! A handle owns a searcher, or is empty. C lends one to a call as a reader, and a slice as a pointer, which isn't null,
-//! and a length. Every other argument is tested: whatever it is, a call does no harm.
+//! A handle owns a searcher, or is empty. C lends the searcher to a call as a reader, and a slice as a pointer, which
+//! isn't null, and a length. All else is tested: whatever numbers C passes, a call does no harm.
 #![tactic(auto)]
 
 pub mod facts;

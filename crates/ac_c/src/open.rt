@@ -21,10 +21,10 @@ pub extern "C" fn ac_raw_version() -> u32
     VERSION
 }
 
-/// Builds a searcher by these options over the patterns that stand in `bytes`, each up to its end, and leaves it in
-/// `out`. What `out` held before is freed.
+/// Builds a searcher by these options over the patterns that stand in `bytes`, each up to its end, and leaves it in `out`.
+/// What `out` held before is freed.
 ///
-/// Returns `OK`; `ARGUMENTS`, `MEMORY` or `LIMIT`, and `out` is as it was.
+/// Returns `OK`; or `ARGUMENTS`, `MEMORY` or `LIMIT`: then `out` is as it was.
 #[unsafe(no_mangle)]
 pub extern "C" fn ac_raw_open(
     alloc: Global,

@@ -4,7 +4,8 @@ ghost use Rattle.ac_c.specs.Settings.{engines, flags, match_kinds, names_setting
 
 use ac_search::{AhoCorasick, AhoCorasickBuilder, AhoCorasickKind, MatchKind, StartKind};
 
-/// The settings of a searcher, each as a number: of a match kind, a start kind, an engine, and of three flags.
+/// The settings of a searcher: the numbers of its match kind, its start kind and its engine, three flags, and the length
+/// below which states of a contiguous NFA are dense.
 #[repr(C)]
 #[derive(Clone, Copy)]
 pub struct Options {

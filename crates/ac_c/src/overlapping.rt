@@ -2,9 +2,9 @@
 ghost use Rattle.std.specs.Prelude.{◌≡◌, ◌≢◌, ◌^◌, ◌<◌, ◌≤◌, [], ◌∷◌, MatchOption, MatchResult, Some, drop, length};
 ghost use Rattle.ac_search.specs.Built.{overlapping_iter_refusal, search_in};
 ghost use Rattle.ac_search.specs.Input.{input_of};
-ghost use Rattle.ac_c.specs.Batches.{Gives, listing_due, listing_from};
+ghost use Rattle.ac_c.specs.Batches.{Gives, GivesNothing, listing_due, listing_from};
 ghost use Rattle.ac_c.specs.Statuses.{overlapping_status};
-ghost use Rattle.ac_c.specs.Steps.{ListingStandsAt};
+ghost use Rattle.ac_c.specs.Steps.{GivesUnless, ListingStandsAt};
 
 use crate::reader::Reader;
 use crate::search::{Cursor, FoundMatch, Span};
@@ -12,10 +12,11 @@ use crate::status::{ARGUMENTS, OK, refusal_status};
 use ac_search::{AhoCorasick, FindOverlappingIter, Input, Match, MatchError};
 use std::alloc::Global;
 
-/// Writes the next occurrences of the listing of the span to `out`, how many they are to `filled`, and moves the cursor past
-/// them. Fewer than `out` has room for are written only where no more follow.
+/// Writes the next occurrences of the listing of a span to `out`, and their number to `filled`, and moves the cursor
+/// past them. Fewer than `out` has room for are written only where no more follow.
 ///
-/// Returns `OK`; or `ARGUMENTS`, `ANCHORED`, `UNANCHORED` or `OVERLAPPING`, with `filled` 0, and the rest as it was.
+/// Returns `OK`; or `ARGUMENTS`, `UNANCHORED`, `OVERLAPPING` or `ANCHORED`: then `filled` is 0, and all else is as it
+/// was.
 #[unsafe(no_mangle)]
 pub extern "C" fn ac_raw_overlapping(
     reader: &mut Reader,
@@ -28,7 +29,7 @@ pub extern "C" fn ac_raw_overlapping(
     ensures status { result ≡ overlapping_status reader.old.searcher haystack.now span.now }
     ensures lists { result ≡ OK → Gives (listing_due reader.old.searcher haystack.now span.now)
         cursor.old cursor.new out.old out.new filled.new }
-    ensures otherwise { result ≢ OK → (cursor.new ≡ cursor.old) × (out.new ≡ out.old) × (filled.new ≡ 0) }
+    ensures otherwise { result ≢ OK → GivesNothing cursor.old cursor.new out.old out.new filled.new }
     ensures reader { reader.new ≡ reader.old }
 {
     *filled = 0;
@@ -48,8 +49,8 @@ pub extern "C" fn ac_raw_overlapping(
 
 /// Writes the next occurrences from the cursor on, and moves it past them. Returns how many they are.
 ///
-/// What ends at the cursor or later starts no earlier than the length of the longest pattern before it, so the listing is
-/// made again from there.
+/// What ends at the cursor or later starts no earlier than the longest pattern's length before it, so the listing is made
+/// again from there.
 fn list(
     searcher: &AhoCorasick,
     input: Input<'_>,
@@ -58,14 +59,12 @@ fn list(
 ) -> Result<usize, MatchError>
     requires legal { (input_of input).start ≤ (input_of input).end }
     requires within { (input_of input).start ≤ cursor.old.at }
-    ensures lists { MatchResult result
-        (λ filled. (overlapping_iter_refusal searcher.now.built (input_of input.entry) ≡ None)
-        × Gives (listing_from (search_in searcher.now.built (input_of input.entry)))
-        cursor.old cursor.new out.old out.new filled)
-        (λ e. (overlapping_iter_refusal searcher.now.built (input_of input.entry) ≡ Some e) × (out.new ≡ out.old)) }
+    ensures lists { GivesUnless (overlapping_iter_refusal searcher.now.built (input_of input.entry))
+        (listing_from (search_in searcher.now.built (input_of input.entry)))
+        cursor.old cursor.new out.old out.new result }
     ensures within { (input_of input.entry).start ≤ cursor.new.at }
 {
-    // Read for its bound: no more occurrences end at one offset than there are patterns, so a cursor can count them.
+    // Read for its bound: at most one occurrence of each pattern ends at an offset, so a cursor can count them.
     let _patterns_len = searcher.patterns_len();
     let reach = cursor.at.saturating_sub(searcher.max_pattern_len());
     let start = reach.max(input.start()).min(input.end());
@@ -90,7 +89,8 @@ fn pass<'a, 'h>(items: &mut FindOverlappingIter<'a, 'h, Global>, here: &mut Curs
     requires counted { length items.old.search.patterns < 2 ^ 64 }
     ensures stands { ListingStandsAt items.new here.new }
     ensures same { items.new.search ≡ items.old.search }
-    ensures passes { listing_from items.old.search here.new ≡ drop count (listing_from items.old.search here.old) }
+    ensures passes { listing_from items.old.search here.new
+        ≡ drop count (listing_from items.old.search here.old) }
     ensures onward { here.old.at ≤ here.new.at }
 {
     for _ in 0..count {

@@ -9,8 +9,8 @@ use std::marker::Model;
 
 mod lend;
 
-/// The right to read the searcher of a handle, whose address it has. C makes one for a handle that isn't empty, and uses
-/// it no longer than the handle.
+/// The right to read the searcher of a handle, whose address it has. C makes one of a handle that isn't empty, and uses it
+/// no longer than the handle.
 #[repr(C)]
 #[derive(Drop)]
 pub struct Reader {

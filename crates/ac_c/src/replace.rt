@@ -10,10 +10,11 @@ use crate::texts::{are_ends, texts_in};
 use ac_search::{AhoCorasick, StartKind};
 use std::alloc::Global;
 
-/// Replaces each match of a walk over the haystack by the text of its pattern. The texts stand in `bytes`, each up to its
-/// end, one for each pattern. The length of the whole goes to `needed`, and where `out` has room for it the whole goes there.
+/// Replaces each match of a walk over the haystack by the text of its pattern. The texts stand in `bytes`, each up to
+/// its end, one for each pattern. The length of the whole is written to `needed`, and the whole to `out`, if that has
+/// room for it.
 ///
-/// Returns `OK`; or `ARGUMENTS`, `UNANCHORED` or `MEMORY`, and all is as it was.
+/// Returns `OK`; or `ARGUMENTS`, `UNANCHORED` or `MEMORY`: then all is as it was.
 #[unsafe(no_mangle)]
 pub extern "C" fn ac_raw_replace(
     alloc: Global,
@@ -69,7 +70,8 @@ fn replaced(
 /// Checks that a searcher supports replacement, whose walk is unanchored.
 fn check_start(searcher: &AhoCorasick) -> Result<(), i32>
     ensures { MatchResult result (λ _. replace_refusal searcher.now.built ≡ None)
-        (λ status. (status ≡ UNANCHORED) × (replace_refusal searcher.now.built ≡ Some InvalidInputUnanchored)) }
+        (λ status. (status ≡ UNANCHORED)
+        × (replace_refusal searcher.now.built ≡ Some InvalidInputUnanchored)) }
 {
     match searcher.start_kind() {
         StartKind::Anchored => Err(UNANCHORED),

@@ -5,8 +5,8 @@ ghost use Rattle.ac_c.specs.Searches.{in_span, input_by, is_input, match_of, pas
 
 use ac_search::{Anchored, Input, Match};
 
-/// What is searched of a haystack, and how: the bytes from `start` up to `end`; whether a match has to start at
-/// `start`; and whether the search ends as soon as some match is known. The last two are 0 or 1.
+/// What is searched of a haystack, and how: the bytes from `start` up to `end`; whether a match has to start at `start`;
+/// and whether the search ends as soon as some match is known. The last two are 0 or 1.
 #[repr(C)]
 #[derive(Clone, Copy)]
 pub struct Span {
@@ -27,8 +27,8 @@ pub struct FoundMatch {
 
 /// How far a walk or a listing has come. Any numbers are safe.
 ///
-/// In a walk a match ended at `at`, or none came before where `given` is 0. In a listing all occurrences that end
-/// before `at` were given, and so many of those that end at `at` or later.
+/// In a walk a match ended at `at`, or none came before if `given` is 0. In a listing all occurrences that end before
+/// `at` were given, and `given` of those that end at `at` or later.
 #[repr(C)]
 #[derive(Clone, Copy)]
 pub struct Cursor {
@@ -40,7 +40,8 @@ impl Span {
     /// Returns the input that the span asks for, or `None` where it names none.
     pub fn input<'h>(&self, haystack: &'h [u8]) -> Option<Input<'h>>
         ensures { MatchOption result (is_input haystack.now self.now ≡ false)
-            (λ input. (is_input haystack.now self.now ≡ true) × (input_of input ≡ input_by haystack.now self.now)) }
+            (λ input. (is_input haystack.now self.now ≡ true)
+            × (input_of input ≡ input_by haystack.now self.now)) }
     {
         if self.start > self.end || self.end > haystack.len() {
             return None;
@@ -48,10 +49,10 @@ impl Span {
         if self.anchored > 1 || self.earliest > 1 {
             return None;
         }
-        let anchored = if self.anchored == 0 {
-            Anchored::No
-        } else {
+        let anchored = if self.anchored == 1 {
             Anchored::Yes
+        } else {
+            Anchored::No
         };
         let input = Input::new(haystack).range(self.start..self.end);
         Some(input.anchored(anchored).earliest(self.earliest == 1))

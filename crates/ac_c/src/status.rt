@@ -10,7 +10,7 @@ pub const OK: i32 = 0;
 /// Something was found.
 pub const FOUND: i32 = 1;
 
-/// An argument names nothing: a number that stands for no setting, ends of texts that fall or pass the bytes, another
+/// An argument names nothing: a number that stands for no setting, ends of texts that fall or lie past the bytes, another
 /// number of texts than of patterns, or a span that doesn't lie in the haystack.
 pub const ARGUMENTS: i32 = 2;
 

@@ -2,9 +2,9 @@
 ghost use Rattle.std.specs.Prelude.{◌≡◌, ◌≢◌, ◌≤◌, [], ◌∷◌, MatchOption, MatchResult, Some};
 ghost use Rattle.ac_search.specs.Built.{find_refusal};
 ghost use Rattle.ac_search.specs.Input.{input_of};
-ghost use Rattle.ac_c.specs.Batches.{Gives, walk_due};
+ghost use Rattle.ac_c.specs.Batches.{Gives, GivesNothing, walk_due};
 ghost use Rattle.ac_c.specs.Statuses.{walk_status};
-ghost use Rattle.ac_c.specs.Steps.{IsOfWalk, WalkStandsAt, HasTaken, left_at, walk_left};
+ghost use Rattle.ac_c.specs.Steps.{GivesUnless, HasTaken, IsOfWalk, WalkStandsAt, left_at, walk_left};
 
 use crate::reader::Reader;
 use crate::search::{Cursor, FoundMatch, Span};
@@ -12,10 +12,10 @@ use crate::status::{ARGUMENTS, OK, refusal_status};
 use ac_search::{AhoCorasick, FindIter, Input, Match, MatchError};
 use std::alloc::Global;
 
-/// Writes the next matches of a walk over the span to `out`, how many they are to `filled`, and moves the cursor past them.
+/// Writes the next matches of a walk over a span to `out`, and their number to `filled`, and moves the cursor past them.
 /// Fewer than `out` has room for are written only where no more follow.
 ///
-/// Returns `OK`; or `ARGUMENTS`, `ANCHORED` or `UNANCHORED`, with `filled` 0, and the rest as it was.
+/// Returns `OK`; or `ARGUMENTS`, `ANCHORED` or `UNANCHORED`: then `filled` is 0, and all else is as it was.
 #[unsafe(no_mangle)]
 pub extern "C" fn ac_raw_walk(
     reader: &mut Reader,
@@ -28,7 +28,7 @@ pub extern "C" fn ac_raw_walk(
     ensures status { result ≡ walk_status reader.old.searcher haystack.now span.now }
     ensures walks { result ≡ OK → Gives (walk_due reader.old.searcher haystack.now span.now)
         cursor.old cursor.new out.old out.new filled.new }
-    ensures otherwise { result ≢ OK → (cursor.new ≡ cursor.old) × (out.new ≡ out.old) × (filled.new ≡ 0) }
+    ensures otherwise { result ≢ OK → GivesNothing cursor.old cursor.new out.old out.new filled.new }
     ensures reader { reader.new ≡ reader.old }
 {
     *filled = 0;
@@ -54,10 +54,8 @@ fn walk(
     out: &mut [FoundMatch],
 ) -> Result<usize, MatchError>
     requires within { (input_of input).start ≤ cursor.old.at }
-    ensures walks { MatchResult result
-        (λ filled. (find_refusal searcher.now.built (input_of input.entry) ≡ None)
-        × Gives (walk_left searcher.now.built (input_of input.entry)) cursor.old cursor.new out.old out.new filled)
-        (λ e. (find_refusal searcher.now.built (input_of input.entry) ≡ Some e) × (out.new ≡ out.old)) }
+    ensures walks { GivesUnless (find_refusal searcher.now.built (input_of input.entry))
+        (walk_left searcher.now.built (input_of input.entry)) cursor.old cursor.new out.old out.new result }
     ensures within { (input_of input.entry).start ≤ cursor.new.at }
 {
     let start = cursor.at.min(input.end());
@@ -94,8 +92,8 @@ fn next<'a, 'h>(matches: &mut FindIter<'a, 'h, Global>, cursor: &mut Cursor) -> 
     Some(found)
 }
 
-/// Takes the next match after the cursor. An iterator begins with no match before it, so it may return the empty match at
-/// the cursor again, which was given.
+/// Takes the next match after the cursor. An iterator begins with no match before it, so it may return the empty match
+/// at the cursor again, which was given.
 fn take<'a, 'h>(matches: &mut FindIter<'a, 'h, Global>, cursor: &Cursor) -> Option<Match>
     requires { WalkStandsAt matches.old cursor.now }
     ensures { HasTaken matches.old cursor.now result matches.new }

@@ -24,6 +24,7 @@ use Rattle.ac_c.proofs.Ownership.RawBoxValues as raw_box
 use Rattle.ac_c.specs.Ownership.{searcher_row}
 use Rattle.ac_c.specs.contracts.handle.Handle as handle
 
+-- the rows of the searcher, of its allocator, of its box as an address, and of the handle
 abbrev pub R : RattleType
 R = searcher_row
 
@@ -43,6 +44,7 @@ abbrev pub al : Al
 al = raw_box.al R Z LZ ghosts
 
 module _ {M : Type 1} {𝓤 : Ura M} {𝓛 : Logic 𝓤} {K : Type 0} {Γ : List (Item 𝓤)} {G : Goal 𝓤 𝓛.H} where
+  -- what it owns, by its value
   pub handle_out : K → (d : Handle.Denot) (vs : List Val)
       → ((h : Val) → vs ≡ raw_box.both (ptr_val d.at) h ∷ [] → Good (layout Z) h → Seq K 𝓛 (‵ (held R d.alloc d.at d.searcher) ∷ ‵ (Z.own_val d.alloc (h ∷ [])) ∷ Γ) G)
       → Seq K 𝓛 (‵ (Handle.own_val d vs) ∷ Γ) G
@@ -50,6 +52,7 @@ module _ {M : Type 1} {𝓤 : Ura M} {𝓛 : Logic 𝓤} {K : Type 0} {Γ : List
       fsplit t $ fpick t (λ vss. fsplit t $ feq_l t (λ ev. fsplit t $ feq_l t (λ ep. fsplit t $ handle_tells al t d.alloc vss.1.0 (λ h ea fits. move t (1 ∷ []) $ drop t $ move t (1 ∷ []) $
       k h (subst (λ (ws : List Val). vs ≡ vstruct (of_list (ptr_val d.at ∷ (ws ++ []))) ∷ []) ea (subst (λ (ps : List Val). vs ≡ vstruct (of_list (ps ++ (vss.1.0 ++ []))) ∷ []) ep ev)) fits))))
 
+  -- and back
   pub handle_in : K → (p : Ptr) (h : Val) (a : Global) (w : Option R.Denot)
       → Step K 𝓛 (‵ (Handle.own_val (record { at = p; alloc = a; searcher = w }) (raw_box.both (ptr_val p) h ∷ [])) ∷ Γ) G (‵ (held R a p w) ∷ ‵ (Z.own_val a (h ∷ [])) ∷ Γ) G
   handle_in t p h a w = step (λ s. let v : Val = raw_box.both (ptr_val p) h in

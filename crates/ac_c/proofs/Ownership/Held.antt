@@ -18,12 +18,14 @@ use Rattle.std.specs.declared.option.Option.TheVariants.{None, Some}
 use Rattle.ac_c.specs.Ownership.{boxed, held}
 
 module _ (R : RattleType) (a : Global) where
+  -- the address of a box can be tested for null
   pub tested : {M : Type 1} {𝓤 : Ura M} (𝓛 : Logic 𝓤) (p : Ptr) (x : R.Denot) → ent 𝓤 (sem 𝓛 (boxed R a p x)) (guard 𝓤 (Testable p) (sem 𝓛 (boxed R a p x)))
   tested {𝓤 = 𝓤} 𝓛 p x =
       fact_use 𝓤 (Testable p) (via 𝓤 _ (snd∗ 𝓤 (sem 𝓛 (lies_at R full_share p x)) (sem 𝓛 (ghosts.dealloc_token a (bare (lone R.mir)) p))) (dealloc_token-Testable 𝓛 a (bare (lone R.mir)) p))
       (guard_i 𝓤 (Testable p) (sem 𝓛 (boxed R a p x)))
 
   module _ {M : Type 1} {𝓤 : Ura M} {𝓛 : Logic 𝓤} {K : Type 0} {Γ : List (Item 𝓤)} {G : Goal 𝓤 𝓛.H} where
+    -- what is held is nothing at null, or a box at an address in a block
     pub either_held : K → (p : Ptr) (w : Option R.Denot) → (p ≡ null_ptr → w ≡ None → Seq K 𝓛 Γ G)
         → ((b o : ℕ) (x : R.Denot) → p ≡ block_ptr b o → w ≡ Some x → Testable (block_ptr b o) → Seq K 𝓛 (‵ (boxed R a (block_ptr b o) x) ∷ Γ) G) → Seq K 𝓛 (‵ (held R a p w) ∷ Γ) G
     either_held t p None none one = fpick t (λ e. drop t $ none e refl)

@@ -5,8 +5,7 @@ ghost use Rattle.std_alloc.specs.Box.Ownership.{box_owns};
 use std::alloc::Allocator;
 use std::marker::Model;
 
-/// A box as its address and its allocator. It owns what the box does, and can't be dropped: `into_box` makes the box
-/// again.
+/// A box as its address and its allocator. It owns what the box does, and isn't dropped: `into_box` makes the box again.
 pub struct RawBox<T, A: Allocator> {
     pub at: *mut T,
     pub alloc: A,

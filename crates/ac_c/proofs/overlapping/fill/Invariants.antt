@@ -4,8 +4,8 @@ use Rattle.ac_c.specs.Searches.{match_of}
 use Rattle.ac_c.specs.Steps.{ListingStandsAt}
 use Rattle.ac_c.proofs.overlapping.fill.Given as goal
 
--- the listing stands at the cursor, what was written so far and what is due are what was due before, and the rest of `out`
--- is as it was
+-- the listing stands at the cursor; what was written so far and what is due are what was due before; and the rest of
+-- `out` is as it was
 abbrev pub invariant-loop-filled : goal.invariant-loop-filled
 invariant-loop-filled l =
     record {

@@ -7,8 +7,8 @@ use Rattle.ac_c.specs.Searches.{match_of}
 use Rattle.ac_c.specs.Steps.{WalkStandsAt, walk_left}
 use Rattle.ac_c.proofs.walk.walk.Given as goal
 
--- the walk stands at the cursor, what was written so far and what is left are what was left before, and the rest of `out` is
--- as it was
+-- the walk stands at the cursor; what was written so far and what is left are what was left before; and the rest of
+-- `out` is as it was
 abbrev pub invariant-loop-filled : goal.invariant-loop-filled
 invariant-loop-filled l =
     record {
