@@ -31,7 +31,8 @@ int32_t ac_raw_is_match(ac_raw_reader *searcher, const uint8_t *haystack, size_t
     return is_right(searcher->at && haystack && !haystack_len && span);
 }
 
-int32_t ac_raw_count(ac_raw_reader *searcher, const uint8_t *haystack, size_t haystack_len, const ac_span *span, size_t *count) {
+int32_t ac_raw_count(ac_raw_reader *searcher, const uint8_t *haystack, size_t haystack_len, const ac_span *span,
+                     size_t *count) {
     return is_right(searcher->at && haystack && !haystack_len && span && count);
 }
 
