@@ -1,5 +1,6 @@
-/* The exports of the proved static library ac_c. ac.c tests what comes from outside and calls these; nothing else does.
-   A slice is a pointer and a length, and its pointer isn't null, also where the length is 0. */
+/* The exports of the proved static library ac_c. They do what ac.h says, but test no pointer: ac.c does, and the types of
+   ../rust do. A slice is a pointer and a length, and its pointer isn't null, even if the length is 0. ac_raw_open frees the
+   searcher that `out` held, unless it returns an error. */
 #ifndef AC_RAW_H
 #define AC_RAW_H
 #include "ac.h"
