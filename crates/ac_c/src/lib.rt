@@ -14,5 +14,7 @@ pub mod reader;
 pub mod replace;
 pub mod search;
 pub mod status;
+#[cfg(test)]
+mod tests;
 pub mod texts;
 pub mod walk;
