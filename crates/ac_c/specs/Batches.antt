@@ -48,6 +48,13 @@ pub record Gives (due : Cursor → List Occurrence) (cursor new_cursor : Cursor)
   pub fits : filled ≤ length out
   pub ends : filled < length out → due new_cursor ≡ []
 
+-- a batch of a walk over a span, and one of its listing, give what was due
+abbrev pub Walks : Searcher → List ℕ → Span → Cursor → Cursor → List FoundMatch → List FoundMatch → ℕ → Type 0
+Walks searcher haystack span = Gives (walk_due searcher haystack span)
+
+abbrev pub Lists : Searcher → List ℕ → Span → Cursor → Cursor → List FoundMatch → List FoundMatch → ℕ → Type 0
+Lists searcher haystack span = Gives (listing_due searcher haystack span)
+
 -- nothing is given, and the cursor and `out` are as they were
 pub record GivesNothing (cursor new_cursor : Cursor) (out new_out : List FoundMatch) (filled : ℕ) : Type 0 where
   pub stays : new_cursor ≡ cursor

@@ -1,5 +1,5 @@
 -- What `ac_raw_open` returns and leaves.
-use Rattle.std.specs.Prelude.{◌≡◌, ◌≢◌, ◌⊎◌, ◌&&◌, ℕ, ℤ, List, length, MatchOption, Option, None, Some, if◌then◌else◌}
+use Rattle.std.specs.Prelude.{◌≡◌, ◌≢◌, ◌⊎◌, ◌&&◌, ℕ, ℤ, List, length, MatchOption, MatchResult, Option, None, Some, Result, if◌then◌else◌}
 use Rattle.ac_search.specs.declared.BuildError.{BuildError}
 use Rattle.ac_search.specs.Builds.{refusal_or}
 use Rattle.ac_search.specs.Patterns.{limit_refusal}
@@ -37,3 +37,10 @@ open_status options bytes ends =
 -- a call returns the status that is expected, or MEMORY in its place, unless an argument is at fault
 abbrev pub IsStatusOrMemory : ℤ → ℤ → Type 0
 IsStatusOrMemory expected status = (status ≡ expected) ⊎ ((expected ≢ ARGUMENTS) × (status ≡ MEMORY))
+
+-- a searcher is returned where nothing refuses it, and else the status
+abbrev pub AnswersOpened : Options → List ℕ → List ℕ → Result Searcher ℤ → Type 0
+AnswersOpened options bytes ends result =
+    MatchResult result
+    (λ searcher. (open_status options bytes ends ≡ OK) × IsOpened options bytes ends searcher)
+    (λ status. (status ≢ OK) × IsStatusOrMemory (open_status options bytes ends) status)

@@ -1,5 +1,6 @@
 -- What `ac_raw_replace` returns and writes.
-use Rattle.std.specs.Prelude.{◌≡◌, ◌<◌, ◌≤◌, ◌⊎◌, ◌++◌, ◌&&◌, ◌==◌, ℕ, ℤ, List, drop, length}
+use Rattle.std.specs.Prelude.{◌≡◌, ◌≢◌, MatchResult, Result, ◌<◌, ◌≤◌, ◌⊎◌, ◌++◌, ◌&&◌, ◌==◌, ℕ, ℤ, List, drop, length}
+use Rattle.std.specs.declared.vec.Vec.{Vec}
 use Rattle.ac_search.specs.Built.{exchanged, replace_refusal}
 use Rattle.ac_search.specs.Replacement.{replaced}
 use Rattle.ac_search.specs.Searchers.{Searcher}
@@ -27,3 +28,14 @@ pub record Puts (whole : List ℕ) (out new_out : List ℕ) (needed : ℕ) : Typ
   pub needs : needed ≡ length whole
   pub fits : needed ≤ length out → new_out ≡ whole ++ drop needed out
   pub stays : length out < needed → new_out ≡ out
+
+-- what is replaced in the haystack is written so
+abbrev pub Replaces : Searcher → List ℕ → List ℕ → List ℕ → List ℕ → List ℕ → ℕ → Type 0
+Replaces searcher haystack bytes ends = Puts (replaced_by searcher haystack bytes ends)
+
+-- the whole is returned where nothing refuses it, and else the status
+abbrev pub AnswersReplaced : {Z : Type 0} → Searcher → List ℕ → List ℕ → List ℕ → Result (Vec ℕ Z) ℤ → Type 0
+AnswersReplaced searcher haystack bytes ends result =
+    MatchResult result
+    (λ whole. (replace_status searcher bytes ends ≡ OK) × (whole.items ≡ replaced_by searcher haystack bytes ends))
+    (λ status. (status ≢ OK) × IsOkOrMemory (replace_status searcher bytes ends) status)

@@ -1,5 +1,5 @@
 -- Spans, matches and cursors of C, and what is found in a span.
-use Rattle.std.specs.Prelude.{ℕ, ◌+◌, ◌==◌, Bool, ◌&&◌, nat_le, nat_lt, List, length, Option, if◌then◌else◌}
+use Rattle.std.specs.Prelude.{◌≡◌, ℕ, ◌+◌, ◌==◌, Bool, true, false, ◌&&◌, nat_le, nat_lt, List, length, MatchOption, Option, Some, if◌then◌else◌}
 use Rattle.ac_search.specs.Built.{find_result, walk_result}
 use Rattle.ac_search.specs.Input.{InputView}
 use Rattle.ac_search.specs.Occurrence.{Occurrence, occurrence}
@@ -33,10 +33,15 @@ input_by haystack span = record {
 abbrev pub match_of : FoundMatch → Occurrence
 match_of found = occurrence found.pattern found.start found.end
 
--- what a find in the span returns, and the matches of a walk over it
+-- what a find in a span returns
 abbrev pub found_in : Searcher → List ℕ → Span → Option Occurrence
 found_in searcher haystack span = find_result searcher.built (input_by haystack span)
 
+-- it returns this match
+abbrev pub IsFoundIn : Searcher → List ℕ → Span → FoundMatch → Type 0
+IsFoundIn searcher haystack span found = found_in searcher haystack span ≡ Some (match_of found)
+
+-- the matches of a walk over a span
 abbrev pub matches_in : Searcher → List ℕ → Span → List Occurrence
 matches_in searcher haystack span = walk_result searcher.built (input_by haystack span)
 
@@ -47,6 +52,10 @@ in_span start cursor = if nat_lt cursor.at start then record { at = start; given
 -- a cursor past each span of the haystack
 abbrev pub past : List ℕ → Cursor
 past haystack = record { at = length haystack + 1; given = 0 }
+
+-- a test is true, and what is seen of the answer is this value; or it is false, and there is none
+abbrev pub AnswersIf : {X Y : Type 0} → Bool → (X → Y) → Y → Option X → Type 0
+AnswersIf test seen value result = MatchOption result (test ≡ false) (λ x. (test ≡ true) × (seen x ≡ value))
 
 -- the cursor once one more occurrence was given, which ends at this place
 abbrev pub stepped : Cursor → ℕ → Cursor

@@ -1,6 +1,6 @@
 //! The build of a searcher, and its end.
-ghost use Rattle.std.specs.Prelude.{◌≡◌, ◌≢◌, MatchResult};
-ghost use Rattle.ac_c.specs.Opens.{Holds, IsOpened, IsStatusOrMemory, open_status};
+ghost use Rattle.std.specs.Prelude.{◌≡◌, ◌≢◌};
+ghost use Rattle.ac_c.specs.Opens.{AnswersOpened, Holds, IsStatusOrMemory, open_status};
 
 use crate::handle::Handle;
 use crate::handle::raw_box::RawBox;
@@ -63,10 +63,7 @@ fn opened(
     bytes: &[u8],
     ends: &[usize],
 ) -> Result<AhoCorasick, i32>
-    ensures { MatchResult result
-        (λ searcher. (open_status options.now bytes.now ends.now ≡ OK)
-        × IsOpened options.now bytes.now ends.now searcher)
-        (λ status. (status ≢ OK) × IsStatusOrMemory (open_status options.now bytes.now ends.now) status) }
+    ensures { AnswersOpened options.now bytes.now ends.now result }
 {
     let Some(builder) = options.builder() else {
         return Err(ARGUMENTS);

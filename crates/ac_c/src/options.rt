@@ -1,5 +1,6 @@
 //! The settings of a searcher as numbers.
-ghost use Rattle.std.specs.Prelude.{◌≡◌, ◌≤◌, MatchOption, None, Some, slice_get, true, false};
+ghost use Rattle.std.specs.Prelude.{◌≡◌, slice_get};
+ghost use Rattle.ac_c.specs.Searches.{AnswersIf};
 ghost use Rattle.ac_c.specs.Settings.{engines, flags, match_kinds, names_settings, settings_by, start_kinds};
 
 use ac_search::{AhoCorasick, AhoCorasickBuilder, AhoCorasickKind, MatchKind, StartKind};
@@ -69,8 +70,7 @@ fn flag_of(number: u32) -> Option<bool>
 impl Options {
     /// Returns a builder with these settings, or `None` where a number names none.
     pub fn builder(&self) -> Option<AhoCorasickBuilder>
-        ensures { MatchOption result (names_settings self.now ≡ false)
-            (λ settings. (names_settings self.now ≡ true) × (settings ≡ settings_by self.now)) }
+        ensures { AnswersIf (names_settings self.now) (λ settings. settings) (settings_by self.now) result }
     {
         let mut builder = AhoCorasick::builder();
         builder.match_kind(match_kind_of(self.match_kind)?);

@@ -1,10 +1,9 @@
 //! Listings of all occurrences, a batch at a time.
-ghost use Rattle.std.specs.Prelude.{◌≡◌, ◌≢◌, ◌^◌, ◌<◌, ◌≤◌, [], ◌∷◌, MatchOption, MatchResult, Some, drop, length};
-ghost use Rattle.ac_search.specs.Built.{overlapping_iter_refusal, search_in};
+ghost use Rattle.std.specs.Prelude.{◌≡◌, ◌≢◌, ◌^◌, ◌<◌, ◌≤◌, drop, length};
 ghost use Rattle.ac_search.specs.Input.{input_of};
-ghost use Rattle.ac_c.specs.Batches.{Gives, GivesNothing, listing_due, listing_from};
+ghost use Rattle.ac_c.specs.Batches.{Gives, GivesNothing, Lists, listing_from};
 ghost use Rattle.ac_c.specs.Statuses.{overlapping_status};
-ghost use Rattle.ac_c.specs.Steps.{GivesUnless, ListingStandsAt};
+ghost use Rattle.ac_c.specs.Steps.{GivesFirst, ListingStandsAt, ListsUnless};
 
 use crate::reader::Reader;
 use crate::search::{Cursor, FoundMatch, Span};
@@ -27,8 +26,8 @@ pub extern "C" fn ac_raw_overlapping(
     filled: &mut usize,
 ) -> i32
     ensures status { result ≡ overlapping_status reader.old.searcher haystack.now span.now }
-    ensures lists { result ≡ OK → Gives (listing_due reader.old.searcher haystack.now span.now)
-        cursor.old cursor.new out.old out.new filled.new }
+    ensures lists { result ≡ OK
+        → Lists reader.old.searcher haystack.now span.now cursor.old cursor.new out.old out.new filled.new }
     ensures otherwise { result ≢ OK → GivesNothing cursor.old cursor.new out.old out.new filled.new }
     ensures reader { reader.new ≡ reader.old }
 {
@@ -59,9 +58,7 @@ fn list(
 ) -> Result<usize, MatchError>
     requires legal { (input_of input).start ≤ (input_of input).end }
     requires within { (input_of input).start ≤ cursor.old.at }
-    ensures lists { GivesUnless (overlapping_iter_refusal searcher.now.built (input_of input.entry))
-        (listing_from (search_in searcher.now.built (input_of input.entry)))
-        cursor.old cursor.new out.old out.new result }
+    ensures lists { ListsUnless searcher.now (input_of input.entry) cursor.old cursor.new out.old out.new result }
     ensures within { (input_of input.entry).start ≤ cursor.new.at }
 {
     // Read for its bound: at most one occurrence of each pattern ends at an offset, so a cursor can count them.
@@ -126,9 +123,7 @@ fn next<'a, 'h>(items: &mut FindOverlappingIter<'a, 'h, Global>, here: &mut Curs
     requires counted { length items.old.search.patterns < 2 ^ 64 }
     ensures stands { ListingStandsAt items.new here.new }
     ensures same { items.new.search ≡ items.old.search }
-    ensures gives { MatchOption result
-        ((listing_from items.old.search here.old ≡ []) × (here.new ≡ here.old))
-        (λ m. listing_from items.old.search here.old ≡ m ∷ listing_from items.old.search here.new) }
+    ensures gives { GivesFirst (listing_from items.old.search) here.old result here.new }
     ensures onward { here.old.at ≤ here.new.at }
 {
     while let Some(found) = items.next() {

@@ -1,13 +1,12 @@
 //! Replacement of the matches of a haystack.
-ghost use Rattle.std.specs.Prelude.{◌≡◌, ◌≢◌, MatchResult, None, Some, length};
-ghost use Rattle.ac_search.specs.Built.{replace_refusal};
-ghost use Rattle.ac_search.specs.declared.MatchError.TheVariants.{InvalidInputUnanchored};
-ghost use Rattle.ac_c.specs.Replaces.{IsOkOrMemory, Puts, replace_status, replaced_by};
+ghost use Rattle.std.specs.Prelude.{◌≡◌, ◌≢◌, length};
+ghost use Rattle.ac_search.specs.Built.{AnswersUnless, replace_refusal};
+ghost use Rattle.ac_c.specs.Replaces.{AnswersReplaced, IsOkOrMemory, Puts, Replaces, replace_status};
 
 use crate::reader::Reader;
-use crate::status::{ARGUMENTS, MEMORY, OK, UNANCHORED};
+use crate::status::{ARGUMENTS, MEMORY, OK, refusal_status};
 use crate::texts::{are_ends, texts_in};
-use ac_search::{AhoCorasick, StartKind};
+use ac_search::{AhoCorasick, MatchError, StartKind};
 use std::alloc::Global;
 
 /// Replaces each match of a walk over the haystack by the text of its pattern. The texts stand in `bytes`, each up to
@@ -26,8 +25,8 @@ pub extern "C" fn ac_raw_replace(
     needed: &mut usize,
 ) -> i32
     ensures status { IsOkOrMemory (replace_status reader.old.searcher bytes.now ends.now) result }
-    ensures puts { result ≡ OK → Puts (replaced_by reader.old.searcher haystack.now bytes.now ends.now)
-        out.old out.new needed.new }
+    ensures replaces { result ≡ OK
+        → Replaces reader.old.searcher haystack.now bytes.now ends.now out.old out.new needed.new }
     ensures otherwise { result ≢ OK → (out.new ≡ out.old) × (needed.new ≡ needed.old) }
     ensures reader { reader.new ≡ reader.old }
 {
@@ -49,15 +48,14 @@ fn replaced(
     bytes: &[u8],
     ends: &[usize],
 ) -> Result<Vec<u8>, i32>
-    ensures { MatchResult result
-        (λ whole. (replace_status searcher.now bytes.now ends.now ≡ OK)
-        × (whole.items ≡ replaced_by searcher.now haystack.now bytes.now ends.now))
-        (λ status. (status ≢ OK) × IsOkOrMemory (replace_status searcher.now bytes.now ends.now) status) }
+    ensures { AnswersReplaced searcher.now haystack.now bytes.now ends.now result }
 {
     if !are_ends(ends, bytes.len()) || ends.len() != searcher.patterns_len() {
         return Err(ARGUMENTS);
     }
-    check_start(searcher)?;
+    if let Err(error) = check_start(searcher) {
+        return Err(refusal_status(error));
+    }
     let Ok(texts) = texts_in(alloc, bytes, ends) else {
         return Err(MEMORY);
     };
@@ -68,13 +66,11 @@ fn replaced(
 }
 
 /// Checks that a searcher supports replacement, whose walk is unanchored.
-fn check_start(searcher: &AhoCorasick) -> Result<(), i32>
-    ensures { MatchResult result (λ _. replace_refusal searcher.now.built ≡ None)
-        (λ status. (status ≡ UNANCHORED)
-        × (replace_refusal searcher.now.built ≡ Some InvalidInputUnanchored)) }
+fn check_start(searcher: &AhoCorasick) -> Result<(), MatchError>
+    ensures { AnswersUnless (replace_refusal searcher.now.built) tt result }
 {
     match searcher.start_kind() {
-        StartKind::Anchored => Err(UNANCHORED),
+        StartKind::Anchored => Err(MatchError::InvalidInputUnanchored),
         StartKind::Unanchored | StartKind::Both => Ok(()),
     }
 }

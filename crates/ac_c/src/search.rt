@@ -1,7 +1,7 @@
 //! Spans, matches and cursors as C has them.
-ghost use Rattle.std.specs.Prelude.{◌≡◌, ◌<◌, MatchOption, true, false};
+ghost use Rattle.std.specs.Prelude.{◌≡◌, ◌<◌};
 ghost use Rattle.ac_search.specs.Input.{input_of};
-ghost use Rattle.ac_c.specs.Searches.{in_span, input_by, is_input, match_of, past, stepped};
+ghost use Rattle.ac_c.specs.Searches.{AnswersIf, in_span, input_by, is_input, match_of, past, stepped};
 
 use ac_search::{Anchored, Input, Match};
 
@@ -39,9 +39,7 @@ pub struct Cursor {
 impl Span {
     /// Returns the input that the span asks for, or `None` where it names none.
     pub fn input<'h>(&self, haystack: &'h [u8]) -> Option<Input<'h>>
-        ensures { MatchOption result (is_input haystack.now self.now ≡ false)
-            (λ input. (is_input haystack.now self.now ≡ true)
-            × (input_of input ≡ input_by haystack.now self.now)) }
+        ensures { AnswersIf (is_input haystack.now self.now) input_of (input_by haystack.now self.now) result }
     {
         if self.start > self.end || self.end > haystack.len() {
             return None;

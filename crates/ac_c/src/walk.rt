@@ -1,10 +1,9 @@
 //! Walks over the matches that don't overlap, a batch at a time.
-ghost use Rattle.std.specs.Prelude.{◌≡◌, ◌≢◌, ◌≤◌, [], ◌∷◌, MatchOption, MatchResult, Some};
-ghost use Rattle.ac_search.specs.Built.{find_refusal};
+ghost use Rattle.std.specs.Prelude.{◌≡◌, ◌≢◌, ◌≤◌, IfSome};
 ghost use Rattle.ac_search.specs.Input.{input_of};
-ghost use Rattle.ac_c.specs.Batches.{Gives, GivesNothing, walk_due};
+ghost use Rattle.ac_c.specs.Batches.{GivesNothing, Walks};
 ghost use Rattle.ac_c.specs.Statuses.{walk_status};
-ghost use Rattle.ac_c.specs.Steps.{GivesUnless, HasTaken, IsOfWalk, WalkStandsAt, left_at, walk_left};
+ghost use Rattle.ac_c.specs.Steps.{GivesFirst, HasTaken, IsOfWalk, WalkStandsAt, WalksUnless, left_at};
 
 use crate::reader::Reader;
 use crate::search::{Cursor, FoundMatch, Span};
@@ -26,8 +25,8 @@ pub extern "C" fn ac_raw_walk(
     filled: &mut usize,
 ) -> i32
     ensures status { result ≡ walk_status reader.old.searcher haystack.now span.now }
-    ensures walks { result ≡ OK → Gives (walk_due reader.old.searcher haystack.now span.now)
-        cursor.old cursor.new out.old out.new filled.new }
+    ensures walks { result ≡ OK
+        → Walks reader.old.searcher haystack.now span.now cursor.old cursor.new out.old out.new filled.new }
     ensures otherwise { result ≢ OK → GivesNothing cursor.old cursor.new out.old out.new filled.new }
     ensures reader { reader.new ≡ reader.old }
 {
@@ -54,8 +53,7 @@ fn walk(
     out: &mut [FoundMatch],
 ) -> Result<usize, MatchError>
     requires within { (input_of input).start ≤ cursor.old.at }
-    ensures walks { GivesUnless (find_refusal searcher.now.built (input_of input.entry))
-        (walk_left searcher.now.built (input_of input.entry)) cursor.old cursor.new out.old out.new result }
+    ensures walks { WalksUnless searcher.now (input_of input.entry) cursor.old cursor.new out.old out.new result }
     ensures within { (input_of input.entry).start ≤ cursor.new.at }
 {
     let start = cursor.at.min(input.end());
@@ -79,9 +77,8 @@ fn walk(
 fn next<'a, 'h>(matches: &mut FindIter<'a, 'h, Global>, cursor: &mut Cursor) -> Option<Match>
     requires { WalkStandsAt matches.old cursor.old }
     ensures same { IsOfWalk matches.old matches.new }
-    ensures gives { MatchOption result (left_at matches.old cursor.old ≡ [])
-        (λ m. left_at matches.old cursor.old ≡ m ∷ left_at matches.old cursor.new) }
-    ensures stands { MatchOption result (cursor.new ≡ cursor.old) (λ _. WalkStandsAt matches.new cursor.new) }
+    ensures gives { GivesFirst (left_at matches.old) cursor.old result cursor.new }
+    ensures stands { IfSome result (λ _. WalkStandsAt matches.new cursor.new) }
     ensures onward { cursor.old.at ≤ cursor.new.at }
 {
     let found = take(matches, cursor)?;

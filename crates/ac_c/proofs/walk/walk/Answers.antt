@@ -26,7 +26,7 @@ returns-in-None-clause-walks c =
     let nothing = none_past order (from q c.past.result.at) (last_of c.past.result) (search rules) in
     let none_left =
     sym (left-alike order loop.matches.picking.order q loop.matches.left loop.cursor kept.order kept.left)
-    ∙ c.in-None.ensures.gives in
+    ∙ c.in-None.ensures.gives.0 in
     let given = ap (λ (ms : List Occurrence). map match_of (take loop.filled loop.out) ++ ms) (nothing ∙ sym none_left) in (
       search rules,
       record {
