@@ -5,21 +5,27 @@ ghost use Rattle.ac_c.specs.Settings.{IsFactsOf, engines, match_kinds, start_kin
 use crate::reader::Reader;
 use ac_search::{AhoCorasickKind, MatchKind, StartKind};
 
-/// What a searcher is: how many patterns it has, the lengths of the shortest and of the longest one, about how many
-/// bytes of memory it takes, and the numbers of the engine that serves it, of its match kind and of its start kind.
+/// What a searcher is. The numbers are those of `Options`.
 #[repr(C)]
 #[derive(Clone, Copy)]
 pub struct Facts {
+    /// How many patterns it has.
     pub patterns: usize,
+    /// The length of the shortest pattern, `usize::MAX` without patterns.
     pub shortest: usize,
+    /// The length of the longest pattern, 0 without patterns.
     pub longest: usize,
+    /// About how many bytes of memory it takes. Nothing is promised about this.
     pub memory: usize,
+    /// The number of the engine that serves it.
     pub engine: u32,
+    /// The number of its match kind.
     pub match_kind: u32,
+    /// The number of its start kind.
     pub start_kind: u32,
 }
 
-/// Writes what a searcher is. Nothing is promised about `memory`.
+/// Writes what a searcher is to `out`.
 #[unsafe(no_mangle)]
 pub extern "C" fn ac_raw_facts(reader: &mut Reader, out: &mut Facts)
     ensures facts { IsFactsOf reader.old.searcher out.new }

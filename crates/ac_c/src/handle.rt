@@ -21,6 +21,7 @@ pub mod raw_box;
 pub struct Handle {
     at: *mut u8,
     alloc: Global,
+    /// The searcher, or none.
     pub ghost searcher: { Option Searcher },
 }
 

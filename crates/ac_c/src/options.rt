@@ -5,17 +5,23 @@ ghost use Rattle.ac_c.specs.Settings.{engines, flags, match_kinds, names_setting
 
 use ac_search::{AhoCorasick, AhoCorasickBuilder, AhoCorasickKind, MatchKind, StartKind};
 
-/// The settings of a searcher: the numbers of its match kind, its start kind and its engine, three flags, and the length
-/// below which states of a contiguous NFA are dense.
+/// The settings of a searcher, those of `AhoCorasickBuilder`.
 #[repr(C)]
 #[derive(Clone, Copy)]
 pub struct Options {
+    /// 0 for `MatchKind::Standard`, 1 for `MatchKind::LeftmostFirst`, 2 for `MatchKind::LeftmostLongest`.
     pub match_kind: u32,
+    /// 0 for `StartKind::Unanchored`, 1 for `StartKind::Anchored`, 2 for `StartKind::Both`.
     pub start_kind: u32,
+    /// 0 for none that is named, 1 for the noncontiguous NFA, 2 for the contiguous NFA, 3 for the DFA.
     pub engine: u32,
+    /// Whether searches ignore the case of ASCII letters: 0 or 1.
     pub ignore_case: u32,
+    /// Whether searches may skip ahead with a prefilter: 0 or 1.
     pub prefilter: u32,
+    /// Whether bytes that need not be distinguished share a class: 0 or 1.
     pub byte_classes: u32,
+    /// Below which depth the states of a contiguous NFA are dense.
     pub dense_depth: usize,
 }
 

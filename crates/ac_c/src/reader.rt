@@ -14,9 +14,13 @@ mod lend;
 #[repr(C)]
 #[derive(Drop)]
 pub struct Reader {
+    /// The address of the searcher.
     pub at: *const u8,
+    /// The searcher.
     pub ghost searcher: { Searcher },
+    /// The lifetime for which it is shared.
     pub ghost lifetime: { ℕ },
+    /// How many parts of that lifetime the reader has.
     pub ghost parts: { ℕ },
 }
 

@@ -5,34 +5,41 @@ ghost use Rattle.ac_c.specs.Searches.{AnswersIf, in_span, input_by, is_input, ma
 
 use ac_search::{Anchored, Input, Match};
 
-/// What is searched of a haystack, and how: the bytes from `start` up to `end`; whether a match has to start at `start`;
-/// and whether the search ends as soon as some match is known. The last two are 0 or 1.
+/// What is searched of a haystack, and how.
 #[repr(C)]
 #[derive(Clone, Copy)]
 pub struct Span {
+    /// The offset where the span starts.
     pub start: usize,
+    /// The offset one past its last byte.
     pub end: usize,
+    /// Whether a match has to start where the span starts: 0 or 1.
     pub anchored: u32,
+    /// Whether the search ends as soon as some match is known: 0 or 1.
     pub earliest: u32,
 }
 
-/// A match: the number of its pattern, and where it starts and ends in the haystack.
+/// A match, by offsets in the whole haystack.
 #[repr(C)]
 #[derive(Clone, Copy)]
 pub struct FoundMatch {
+    /// The number of its pattern.
     pub pattern: usize,
+    /// The offset where it starts.
     pub start: usize,
+    /// The offset one past its last byte.
     pub end: usize,
 }
 
-/// How far a walk or a listing has come. Any numbers are safe.
-///
-/// In a walk a match ended at `at`, or none came before if `given` is 0. In a listing all occurrences that end before
-/// `at` were given, and `given` of those that end at `at` or later.
+/// How far a walk or a listing has come. Any numbers are safe; a cursor before the span is one at its start, where nothing
+/// was given.
 #[repr(C)]
 #[derive(Clone, Copy)]
 pub struct Cursor {
+    /// The offset where the last match that was given ends.
     pub at: usize,
+    /// In a walk, 0 if no match came before. In a listing, how many of the occurrences that end at `at` or later were given;
+    /// of those that end before it all were.
     pub given: usize,
 }
 

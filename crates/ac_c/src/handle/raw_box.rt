@@ -7,8 +7,11 @@ use std::marker::Model;
 
 /// A box as its address and its allocator. It owns what the box does, and isn't dropped: `into_box` makes the box again.
 pub struct RawBox<T, A: Allocator> {
+    /// The address of the value.
     pub at: *mut T,
+    /// The allocator of the box.
     pub alloc: A,
+    /// The value.
     pub ghost value: { T },
 }
 
