@@ -1,4 +1,5 @@
 -- The lemmas of numbers, texts, finds, walks and listings, and those of the proofs by hand (`Ownership`).
+pub mod BatchStarts
 pub mod FewAtEnd
 pub mod FoundLemmas
 pub mod LateListings

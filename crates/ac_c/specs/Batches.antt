@@ -39,6 +39,13 @@ abbrev pub listing_due : Searcher → List ℕ → Span → Cursor → List Occu
 listing_due searcher haystack span cursor =
     listing_from (search_in searcher.built (input_by haystack span)) (in_span span.start cursor)
 
+-- at the start of a span or before it, where nothing was given, all are due
+abbrev pub BeginsWith : (Searcher → List ℕ → Span → Cursor → List Occurrence)
+    → (Searcher → List ℕ → Span → List Occurrence) → Type 0
+BeginsWith due all_in =
+    (searcher : Searcher) (haystack : List ℕ) (span : Span) (at : ℕ) → at ≤ span.start
+    → due searcher haystack span (record { at = at; given = 0 }) ≡ all_in searcher haystack span
+
 -- a batch gives the first that were due: they are the first `filled` of `out`, and those that are due then follow them. The
 -- rest of `out` is as it was, and fewer than `out` has room for are given only where nothing more is due
 pub record Gives (due : Cursor → List Occurrence) (cursor new_cursor : Cursor)

@@ -1,7 +1,8 @@
 -- Spans, matches and cursors of C, and what is found in a span.
 use Rattle.std.specs.Prelude.{◌≡◌, ℕ, ◌+◌, ◌==◌, Bool, true, false, ◌&&◌, nat_le, nat_lt, List, length, MatchOption, Option, Some, if◌then◌else◌}
-use Rattle.ac_search.specs.Built.{find_result, walk_result}
+use Rattle.ac_search.specs.Built.{find_result, search_in, walk_result}
 use Rattle.ac_search.specs.Input.{InputView}
+use Rattle.ac_search.specs.Listing.{all}
 use Rattle.ac_search.specs.Occurrence.{Occurrence, occurrence}
 use Rattle.ac_search.specs.Searchers.{Searcher}
 use Rattle.ac_search.specs.declared.Anchored.TheVariants.{No, Yes}
@@ -44,6 +45,10 @@ IsFoundIn searcher haystack span found = found_in searcher haystack span ≡ Som
 -- the matches of a walk over a span
 abbrev pub matches_in : Searcher → List ℕ → Span → List Occurrence
 matches_in searcher haystack span = walk_result searcher.built (input_by haystack span)
+
+-- the occurrences of its listing
+abbrev pub listed_in : Searcher → List ℕ → Span → List Occurrence
+listed_in searcher haystack span = all (search_in searcher.built (input_by haystack span))
 
 -- the cursor; or where it stands before the start of a span, the one at that start with nothing given
 abbrev pub in_span : ℕ → Cursor → Cursor

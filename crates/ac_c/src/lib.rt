@@ -7,6 +7,7 @@
 pub mod facts;
 pub mod find;
 pub mod handle;
+pub mod laws;
 pub mod open;
 pub mod options;
 pub mod overlapping;
