@@ -254,57 +254,88 @@ static void check_facts(void) {
 }
 
 /* Null stands for an empty slice, and is refused anywhere else, as an empty searcher is. */
-static void check_pointers(void) {
-    ac_options usual = AC_DEFAULTS;
-    ac_searcher searcher = AC_EMPTY, empty = AC_EMPTY;
-    ac_span span = {0, 0, 0, 0}, one = {0, 1, 0, 0};
-    ac_cursor cursor = {0, 0};
-    ac_match match;
-    ac_facts facts;
-    size_t end = 1, number;
-    uint8_t byte;
-    CHECK(ac_open(NULL, "a", 1, &end, 1, &empty) == AC_ARGUMENTS && ac_open(&usual, NULL, 1, &end, 1, &empty) == AC_ARGUMENTS);
-    CHECK(ac_open(&usual, "a", 1, NULL, 1, &empty) == AC_ARGUMENTS && ac_open(&usual, "a", 1, &end, 1, NULL) == AC_ARGUMENTS);
-    CHECK(!empty.at && ac_open(&usual, NULL, 0, NULL, 0, &searcher) == AC_OK && searcher.at);
+#define REFUSES(call) CHECK((call) == AC_ARGUMENTS)
+
+static const ac_span no_byte = {0, 0, 0, 0}, one_byte = {0, 1, 0, 0};
+static const ac_searcher empty = AC_EMPTY;
+
+static ac_searcher check_pointers_of_open(void) {
+    const ac_options usual = AC_DEFAULTS;
+    const size_t end = 1;
+    ac_searcher searcher = AC_EMPTY;
+    REFUSES(ac_open(NULL, "a", 1, &end, 1, &searcher));
+    REFUSES(ac_open(&usual, NULL, 1, &end, 1, &searcher));
+    REFUSES(ac_open(&usual, "a", 1, NULL, 1, &searcher));
+    REFUSES(ac_open(&usual, "a", 1, &end, 1, NULL));
+    CHECK(!searcher.at && ac_open(&usual, NULL, 0, NULL, 0, &searcher) == AC_OK && searcher.at);
     ac_close(&searcher);
     CHECK(ac_open(&usual, "a", 1, &end, 1, &searcher) == AC_OK);
-    CHECK(ac_find(&searcher, NULL, 0, &span, &match) == AC_OK && ac_is_match(&searcher, NULL, 0, &span) == AC_OK);
-    CHECK(ac_count(&searcher, NULL, 0, &span, &number) == AC_OK && !number);
-    search *both[] = {ac_walk, ac_overlapping};
-    for (int i = 0; i < 2; i++) {
-        CHECK(both[i](&searcher, NULL, 0, &span, &cursor, NULL, 0, &number) == AC_OK && !number);
-        cursor = (ac_cursor){0, 0};
-        CHECK(both[i](&searcher, "a", 1, &one, &cursor, NULL, 0, &number) == AC_OK && !number);
-        CHECK(both[i](&searcher, "a", 1, &one, &cursor, &match, 1, &number) == AC_OK && number == 1);
-        CHECK(both[i](&searcher, NULL, 1, &one, &cursor, &match, 1, &number) == AC_ARGUMENTS && !number);
-        CHECK(both[i](&searcher, "a", 1, NULL, &cursor, &match, 1, &number) == AC_ARGUMENTS);
-        CHECK(both[i](&searcher, "a", 1, &one, NULL, &match, 1, &number) == AC_ARGUMENTS);
-        CHECK(both[i](&searcher, "a", 1, &one, &cursor, NULL, 1, &number) == AC_ARGUMENTS);
-        CHECK(both[i](&searcher, "a", 1, &one, &cursor, &match, 1, NULL) == AC_ARGUMENTS);
-        CHECK(both[i](&empty, "a", 1, &one, &cursor, &match, 1, &number) == AC_ARGUMENTS);
-        CHECK(both[i](NULL, "a", 1, &one, &cursor, &match, 1, &number) == AC_ARGUMENTS);
-    }
-    CHECK(ac_find(&empty, "a", 1, &one, &match) == AC_ARGUMENTS && ac_find(NULL, "a", 1, &one, &match) == AC_ARGUMENTS);
-    CHECK(ac_find(&searcher, NULL, 1, &one, &match) == AC_ARGUMENTS);
-    CHECK(ac_find(&searcher, "a", 1, NULL, &match) == AC_ARGUMENTS && ac_find(&searcher, "a", 1, &one, NULL) == AC_ARGUMENTS);
-    CHECK(ac_is_match(&empty, "a", 1, &one) == AC_ARGUMENTS && ac_is_match(NULL, "a", 1, &one) == AC_ARGUMENTS);
-    CHECK(ac_is_match(&searcher, NULL, 1, &one) == AC_ARGUMENTS && ac_is_match(&searcher, "a", 1, NULL) == AC_ARGUMENTS);
-    CHECK(ac_count(&empty, "a", 1, &one, &number) == AC_ARGUMENTS && ac_count(NULL, "a", 1, &one, &number) == AC_ARGUMENTS);
-    CHECK(ac_count(&searcher, NULL, 1, &one, &number) == AC_ARGUMENTS);
-    CHECK(ac_count(&searcher, "a", 1, NULL, &number) == AC_ARGUMENTS);
-    CHECK(ac_count(&searcher, "a", 1, &one, NULL) == AC_ARGUMENTS);
-    CHECK(ac_describe(&empty, &facts) == AC_ARGUMENTS && ac_describe(NULL, &facts) == AC_ARGUMENTS);
-    CHECK(ac_describe(&searcher, NULL) == AC_ARGUMENTS);
-    CHECK(ac_replace(&searcher, NULL, 0, "b", 1, &end, 1, NULL, 0, &number) == AC_OK && !number);
-    CHECK(ac_replace(&searcher, "a", 1, "b", 1, &end, 1, NULL, 0, &number) == AC_OK && number == 1);
-    CHECK(ac_replace(&searcher, "a", 1, "b", 1, &end, 1, &byte, 1, &number) == AC_OK && number == 1 && byte == 'b');
-    CHECK(ac_replace(&empty, "a", 1, "b", 1, &end, 1, &byte, 1, &number) == AC_ARGUMENTS);
-    CHECK(ac_replace(NULL, "a", 1, "b", 1, &end, 1, &byte, 1, &number) == AC_ARGUMENTS);
-    CHECK(ac_replace(&searcher, NULL, 1, "b", 1, &end, 1, &byte, 1, &number) == AC_ARGUMENTS);
-    CHECK(ac_replace(&searcher, "a", 1, NULL, 1, &end, 1, &byte, 1, &number) == AC_ARGUMENTS);
-    CHECK(ac_replace(&searcher, "a", 1, "b", 1, NULL, 1, &byte, 1, &number) == AC_ARGUMENTS);
-    CHECK(ac_replace(&searcher, "a", 1, "b", 1, &end, 1, NULL, 1, &number) == AC_ARGUMENTS);
-    CHECK(ac_replace(&searcher, "a", 1, "b", 1, &end, 1, &byte, 1, NULL) == AC_ARGUMENTS);
+    return searcher;
+}
+
+static void check_pointers_of_finds(const ac_searcher *searcher) {
+    ac_match match;
+    ac_facts facts;
+    size_t count;
+    CHECK(ac_find(searcher, NULL, 0, &no_byte, &match) == AC_OK && ac_is_match(searcher, NULL, 0, &no_byte) == AC_OK);
+    CHECK(ac_count(searcher, NULL, 0, &no_byte, &count) == AC_OK && !count);
+    REFUSES(ac_find(&empty, "a", 1, &one_byte, &match));
+    REFUSES(ac_find(NULL, "a", 1, &one_byte, &match));
+    REFUSES(ac_find(searcher, NULL, 1, &one_byte, &match));
+    REFUSES(ac_find(searcher, "a", 1, NULL, &match));
+    REFUSES(ac_find(searcher, "a", 1, &one_byte, NULL));
+    REFUSES(ac_is_match(&empty, "a", 1, &one_byte));
+    REFUSES(ac_is_match(NULL, "a", 1, &one_byte));
+    REFUSES(ac_is_match(searcher, NULL, 1, &one_byte));
+    REFUSES(ac_is_match(searcher, "a", 1, NULL));
+    REFUSES(ac_count(&empty, "a", 1, &one_byte, &count));
+    REFUSES(ac_count(NULL, "a", 1, &one_byte, &count));
+    REFUSES(ac_count(searcher, NULL, 1, &one_byte, &count));
+    REFUSES(ac_count(searcher, "a", 1, NULL, &count));
+    REFUSES(ac_count(searcher, "a", 1, &one_byte, NULL));
+    REFUSES(ac_describe(&empty, &facts));
+    REFUSES(ac_describe(NULL, &facts));
+    REFUSES(ac_describe(searcher, NULL));
+}
+
+static void check_pointers_of_batches(search *by, const ac_searcher *searcher) {
+    ac_cursor cursor = {0, 0};
+    ac_match match;
+    size_t filled;
+    CHECK(by(searcher, NULL, 0, &no_byte, &cursor, NULL, 0, &filled) == AC_OK && !filled);
+    cursor = (ac_cursor){0, 0};
+    CHECK(by(searcher, "a", 1, &one_byte, &cursor, NULL, 0, &filled) == AC_OK && !filled);
+    CHECK(by(searcher, "a", 1, &one_byte, &cursor, &match, 1, &filled) == AC_OK && filled == 1);
+    CHECK(by(searcher, NULL, 1, &one_byte, &cursor, &match, 1, &filled) == AC_ARGUMENTS && !filled);
+    REFUSES(by(searcher, "a", 1, NULL, &cursor, &match, 1, &filled));
+    REFUSES(by(searcher, "a", 1, &one_byte, NULL, &match, 1, &filled));
+    REFUSES(by(searcher, "a", 1, &one_byte, &cursor, NULL, 1, &filled));
+    REFUSES(by(searcher, "a", 1, &one_byte, &cursor, &match, 1, NULL));
+    REFUSES(by(&empty, "a", 1, &one_byte, &cursor, &match, 1, &filled));
+    REFUSES(by(NULL, "a", 1, &one_byte, &cursor, &match, 1, &filled));
+}
+
+static void check_pointers_of_replace(const ac_searcher *searcher) {
+    size_t end = 1, needed;
+    uint8_t byte;
+    CHECK(ac_replace(searcher, NULL, 0, "b", 1, &end, 1, NULL, 0, &needed) == AC_OK && !needed);
+    CHECK(ac_replace(searcher, "a", 1, "b", 1, &end, 1, NULL, 0, &needed) == AC_OK && needed == 1);
+    CHECK(ac_replace(searcher, "a", 1, "b", 1, &end, 1, &byte, 1, &needed) == AC_OK && needed == 1 && byte == 'b');
+    REFUSES(ac_replace(&empty, "a", 1, "b", 1, &end, 1, &byte, 1, &needed));
+    REFUSES(ac_replace(NULL, "a", 1, "b", 1, &end, 1, &byte, 1, &needed));
+    REFUSES(ac_replace(searcher, NULL, 1, "b", 1, &end, 1, &byte, 1, &needed));
+    REFUSES(ac_replace(searcher, "a", 1, NULL, 1, &end, 1, &byte, 1, &needed));
+    REFUSES(ac_replace(searcher, "a", 1, "b", 1, NULL, 1, &byte, 1, &needed));
+    REFUSES(ac_replace(searcher, "a", 1, "b", 1, &end, 1, NULL, 1, &needed));
+    REFUSES(ac_replace(searcher, "a", 1, "b", 1, &end, 1, &byte, 1, NULL));
+}
+
+static void check_pointers(void) {
+    ac_searcher searcher = check_pointers_of_open();
+    check_pointers_of_finds(&searcher);
+    check_pointers_of_batches(ac_walk, &searcher);
+    check_pointers_of_batches(ac_overlapping, &searcher);
+    check_pointers_of_replace(&searcher);
     ac_close(&searcher);
 }
 
