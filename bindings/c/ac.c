@@ -1,0 +1,109 @@
+/* The calls of ac.h. They test pointers, which the proofs assume to be valid, and call the proved library. */
+#include "raw.h"
+
+/* A slice that may be null where it is empty. */
+static int is_slice(const void *at, size_t len) {
+    return at || len == 0;
+}
+
+/* Stands in for the null pointer of an empty slice, since the library takes no null pointer. It is never read. */
+static const size_t nothing[1];
+
+static const void *slice(const void *at) {
+    return at ? at : nothing;
+}
+
+static int is_open(const ac_searcher *searcher) {
+    return searcher && searcher->at;
+}
+
+static int is_search(const ac_searcher *searcher, const void *haystack, size_t haystack_len, const ac_span *span) {
+    return is_open(searcher) && is_slice(haystack, haystack_len) && span;
+}
+
+static ac_raw_reader reader_of(const ac_searcher *searcher) {
+    return (ac_raw_reader){searcher->at};
+}
+
+uint32_t ac_version(void) {
+    return ac_raw_version();
+}
+
+int32_t ac_open(const ac_options *options, const void *bytes, size_t bytes_len, const size_t *ends, size_t ends_len,
+                ac_searcher *out) {
+    if (!options || !is_slice(bytes, bytes_len) || !is_slice(ends, ends_len) || !out || out->at)
+        return AC_ARGUMENTS;
+    ac_raw_handle handle = {0};
+    int32_t status = ac_raw_open(options, slice(bytes), bytes_len, slice(ends), ends_len, &handle);
+    out->at = handle.at;
+    return status;
+}
+
+void ac_close(ac_searcher *searcher) {
+    if (!is_open(searcher))
+        return;
+    ac_raw_close((ac_raw_handle){searcher->at});
+    searcher->at = 0;
+}
+
+int32_t ac_describe(const ac_searcher *searcher, ac_facts *out) {
+    if (!is_open(searcher) || !out)
+        return AC_ARGUMENTS;
+    ac_raw_reader reader = reader_of(searcher);
+    ac_raw_facts(&reader, out);
+    return AC_OK;
+}
+
+int32_t ac_find(const ac_searcher *searcher, const void *haystack, size_t haystack_len, const ac_span *span, ac_match *out) {
+    if (!is_search(searcher, haystack, haystack_len, span) || !out)
+        return AC_ARGUMENTS;
+    ac_raw_reader reader = reader_of(searcher);
+    return ac_raw_find(&reader, slice(haystack), haystack_len, span, out);
+}
+
+int32_t ac_is_match(const ac_searcher *searcher, const void *haystack, size_t haystack_len, const ac_span *span) {
+    if (!is_search(searcher, haystack, haystack_len, span))
+        return AC_ARGUMENTS;
+    ac_raw_reader reader = reader_of(searcher);
+    return ac_raw_is_match(&reader, slice(haystack), haystack_len, span);
+}
+
+int32_t ac_count(const ac_searcher *searcher, const void *haystack, size_t haystack_len, const ac_span *span, size_t *count) {
+    if (!is_search(searcher, haystack, haystack_len, span) || !count)
+        return AC_ARGUMENTS;
+    ac_raw_reader reader = reader_of(searcher);
+    return ac_raw_count(&reader, slice(haystack), haystack_len, span, count);
+}
+
+int32_t ac_walk(const ac_searcher *searcher, const void *haystack, size_t haystack_len, const ac_span *span,
+                ac_cursor *cursor, ac_match *out, size_t out_len, size_t *filled) {
+    ac_match none;
+    if (filled)
+        *filled = 0;
+    if (!is_search(searcher, haystack, haystack_len, span) || !cursor || !is_slice(out, out_len) || !filled)
+        return AC_ARGUMENTS;
+    ac_raw_reader reader = reader_of(searcher);
+    return ac_raw_walk(&reader, slice(haystack), haystack_len, span, cursor, out ? out : &none, out_len, filled);
+}
+
+int32_t ac_overlapping(const ac_searcher *searcher, const void *haystack, size_t haystack_len, const ac_span *span,
+                       ac_cursor *cursor, ac_match *out, size_t out_len, size_t *filled) {
+    ac_match none;
+    if (filled)
+        *filled = 0;
+    if (!is_search(searcher, haystack, haystack_len, span) || !cursor || !is_slice(out, out_len) || !filled)
+        return AC_ARGUMENTS;
+    ac_raw_reader reader = reader_of(searcher);
+    return ac_raw_overlapping(&reader, slice(haystack), haystack_len, span, cursor, out ? out : &none, out_len, filled);
+}
+
+int32_t ac_replace(const ac_searcher *searcher, const void *haystack, size_t haystack_len, const void *bytes,
+                   size_t bytes_len, const size_t *ends, size_t ends_len, void *out, size_t out_len, size_t *needed) {
+    uint8_t none;
+    if (!is_open(searcher) || !is_slice(haystack, haystack_len) || !is_slice(bytes, bytes_len) ||
+        !is_slice(ends, ends_len) || !is_slice(out, out_len) || !needed)
+        return AC_ARGUMENTS;
+    ac_raw_reader reader = reader_of(searcher);
+    return ac_raw_replace(&reader, slice(haystack), haystack_len, slice(bytes), bytes_len, slice(ends), ends_len,
+                          out ? out : &none, out_len, needed);
+}

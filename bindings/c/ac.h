@@ -1,0 +1,133 @@
+/* Aho-Corasick: searches a haystack of bytes for many patterns at once. The searcher under these calls is proved to find
+   what this header says.
+
+   #include "ac.h"
+   #include <stdio.h>
+   int main(void) {
+       const char text[] = "Nobody likes maple in their apple flavored Snapple.";
+       size_t filled = 0, ends[] = {5, 10, 17};
+       ac_options options = AC_DEFAULTS;
+       ac_searcher searcher = AC_EMPTY;
+       ac_span span = AC_WHOLE(sizeof text - 1);
+       ac_cursor cursor = {0, 0};
+       ac_match found[8];
+       if (ac_open(&options, "applemapleSnapple", 17, ends, 3, &searcher) == AC_OK)
+           ac_walk(&searcher, text, sizeof text - 1, &span, &cursor, found, 8, &filled);
+       for (size_t i = 0; i < filled; i++) printf("%zu at %zu..%zu\n", found[i].pattern, found[i].start, found[i].end);
+       ac_close(&searcher);
+   }
+
+   What is found. A pattern occurs in a span of the haystack where its bytes are, all of them inside the span. Patterns are
+   numbered from 0, in the order of the list. Of all occurrences the match kind picks one, the match:
+     AC_STANDARD          the one that ends first, of these the one that starts first
+     AC_LEFTMOST_FIRST    the one that starts first, of these the one with the least number
+     AC_LEFTMOST_LONGEST  the one that starts first, of these the longest
+   and of equal ones the one with the least number. With `earliest` every kind picks as AC_STANDARD does.
+
+   What the caller owes in every call:
+   - A pointer with a length points to that many bytes, numbers or matches, which may be read, and written if the call writes
+     there. If the length is 0 the pointer may be null.
+   - What a call writes does not overlap what the same call reads.
+   - A searcher is empty, which is all zero, or comes from ac_open and wasn't closed. A copy of the struct is the same
+     searcher: closing one closes both.
+   - No two threads use one searcher at the same time. Each thread may open its own. */
+#ifndef AC_H
+#define AC_H
+#include <stddef.h>
+#include <stdint.h>
+#ifdef __cplusplus
+extern "C" {
+#endif
+
+/* major * 10000 + minor * 100 + patch; ac_version() returns that of the library that was linked. */
+#define AC_VERSION 100
+
+/* What a call returns. With AC_ARGUMENTS to AC_OVERLAPPING it has done nothing, except that *filled is 0. */
+enum {
+    AC_OK = 0,          /* done; nothing was found, where something is looked for */
+    AC_FOUND = 1,       /* something was found */
+    AC_ARGUMENTS = 2,   /* a null pointer, an empty searcher, or an argument that the call rules out */
+    AC_MEMORY = 3,      /* an allocation failed */
+    AC_LIMIT = 4,       /* too many patterns, a pattern too long, or too many states */
+    AC_ANCHORED = 5,    /* the searcher doesn't support anchored searches */
+    AC_UNANCHORED = 6,  /* the searcher doesn't support unanchored searches */
+    AC_OVERLAPPING = 7  /* overlapping searches need AC_STANDARD */
+};
+
+enum { AC_STANDARD = 0, AC_LEFTMOST_FIRST = 1, AC_LEFTMOST_LONGEST = 2 };                    /* match_kind */
+enum { AC_START_UNANCHORED = 0, AC_START_ANCHORED = 1, AC_START_BOTH = 2 };                  /* start_kind */
+enum { AC_AUTO = 0, AC_NONCONTIGUOUS_NFA = 1, AC_CONTIGUOUS_NFA = 2, AC_DFA = 3 };           /* engine */
+
+/* A searcher. Who opens it owns it, and has to close it. */
+typedef struct ac_searcher { void *at; } ac_searcher;
+#define AC_EMPTY { 0 }
+
+/* The settings of a searcher; ignore_case, prefilter and byte_classes are 0 or 1. start_kind says which searches it supports;
+   with ignore_case the two cases of an ASCII letter are the same. engine and the last three change no answer. */
+typedef struct ac_options {
+    uint32_t match_kind, start_kind, engine, ignore_case, prefilter, byte_classes;
+    size_t dense_depth;
+} ac_options;
+#define AC_DEFAULTS { AC_STANDARD, AC_START_UNANCHORED, AC_AUTO, 0, 1, 1, 2 }
+
+/* What is searched, and how: from byte start up to byte end, as if there were nothing else. The other two are 0 or 1. In an
+   anchored search a match has to begin at start; in a walk, where the match before it ended. */
+typedef struct ac_span { size_t start, end; uint32_t anchored, earliest; } ac_span;
+#define AC_WHOLE(haystack_len) { 0, (haystack_len), 0, 0 }
+
+typedef struct ac_match { size_t pattern, start, end; } ac_match;
+/* How far a walk or a listing has come. {0, 0} begins one; any numbers are safe. */
+typedef struct ac_cursor { size_t at, given; } ac_cursor;
+/* engine is never AC_AUTO. Without patterns shortest is SIZE_MAX, and longest is 0. */
+typedef struct ac_facts { size_t patterns, shortest, longest, memory; uint32_t engine, match_kind, start_kind; } ac_facts;
+
+uint32_t ac_version(void);
+
+/* Builds a searcher. `bytes` has all patterns one after another: pattern i ends before ends[i], and begins where the one
+   before it ended. A pattern may be empty. The searcher keeps a copy of them.
+   AC_OK; AC_ARGUMENTS if an option has no such value, if ends go down or past bytes_len, or if `out` isn't empty; AC_MEMORY;
+   AC_LIMIT. */
+int32_t ac_open(const ac_options *options, const void *bytes, size_t bytes_len, const size_t *ends, size_t ends_len,
+                ac_searcher *out);
+
+/* Frees a searcher, and leaves it empty. Does nothing if it is empty or null. */
+void ac_close(ac_searcher *searcher);
+
+/* Writes the facts of a searcher. AC_OK. */
+int32_t ac_describe(const ac_searcher *searcher, ac_facts *out);
+
+/* The searches. Each also returns AC_ARGUMENTS if the span starts past its end, ends past the haystack, or has a setting above
+   1; and AC_ANCHORED or AC_UNANCHORED if start_kind doesn't support the search. None takes memory. */
+
+/* Writes the match in the span. AC_FOUND; or AC_OK if no pattern occurs, and `out` is as it was. */
+int32_t ac_find(const ac_searcher *searcher, const void *haystack, size_t haystack_len, const ac_span *span, ac_match *out);
+
+/* Returns what ac_find returns. It stops as soon as it knows of an occurrence. */
+int32_t ac_is_match(const ac_searcher *searcher, const void *haystack, size_t haystack_len, const ac_span *span);
+
+/* Writes how many matches a walk has in all. AC_OK. */
+int32_t ac_count(const ac_searcher *searcher, const void *haystack, size_t haystack_len, const ac_span *span, size_t *count);
+
+/* Writes the next matches of a walk, at most out_len, and how many they are, and moves the cursor past them. A walk has the
+   match in the span, then the match in what follows it, and so on; an empty match is left out where the one before it ended.
+   Fewer than out_len are written only if no more follow. AC_OK. Pass the same span and haystack in all calls of a walk. */
+int32_t ac_walk(const ac_searcher *searcher, const void *haystack, size_t haystack_len, const ac_span *span,
+                ac_cursor *cursor, ac_match *out, size_t out_len, size_t *filled);
+
+/* The same for a listing: every occurrence, ordered by end, then start, then number. Also AC_OVERLAPPING if the searcher
+   isn't AC_STANDARD, and AC_ANCHORED if the span is anchored. A call that goes on reads as many bytes again as the longest
+   pattern has. */
+int32_t ac_overlapping(const ac_searcher *searcher, const void *haystack, size_t haystack_len, const ac_span *span,
+                       ac_cursor *cursor, ac_match *out, size_t out_len, size_t *filled);
+
+/* Replaces each match of a walk over the whole haystack by the text of its pattern. `bytes` and `ends` are the texts, one for
+   each pattern, as in ac_open. Writes the length of the result to *needed, and the result to `out` if out_len is enough; else
+   `out` is as it was. AC_OK; AC_ARGUMENTS if there aren't as many texts as patterns, or if ends go down or past bytes_len;
+   AC_UNANCHORED; AC_MEMORY. */
+int32_t ac_replace(const ac_searcher *searcher, const void *haystack, size_t haystack_len, const void *bytes,
+                   size_t bytes_len, const size_t *ends, size_t ends_len, void *out, size_t out_len, size_t *needed);
+
+#ifdef __cplusplus
+}
+#endif
+#endif

@@ -1,0 +1,290 @@
+"""Searches text or bytes for many patterns at once. The searcher is proved; it is in libac.so.
+
+    with AhoCorasick(["apple", "maple", "Snapple"]) as searcher:
+        for match in searcher.find_iter("Nobody likes maple in their apple flavored Snapple."):
+            print(match.pattern, match.start, match.end)
+
+The variable AC_LIBRARY may name that file. Else it is looked for beside this one, and then where shared objects usually are.
+"""
+import collections
+import ctypes
+import os
+import threading
+
+VERSION = 100
+BATCH = 512  # matches that one call may find
+KINDS = ("standard", "leftmost-first", "leftmost-longest")
+STARTS = ("unanchored", "anchored", "both")
+ENGINES = (None, "noncontiguous-nfa", "contiguous-nfa", "dfa")
+
+Match = collections.namedtuple("Match", "pattern start end")
+Match.__doc__ = "The number of a pattern in the list, and where it was found: haystack[start:end]."
+
+
+class Error(ValueError):
+    """A call was refused."""
+
+
+class ArgumentError(Error):
+    """An argument is wrong: a span outside the haystack, say, or another number of replacements than of patterns."""
+
+
+class LimitError(Error):
+    """Too many patterns, a pattern too long, or too many states."""
+
+
+class AnchoredError(Error):
+    """The searcher doesn't support anchored searches."""
+
+
+class UnanchoredError(Error):
+    """The searcher doesn't support unanchored searches."""
+
+
+class OverlappingError(Error):
+    """Overlapping searches need the kind "standard"."""
+
+
+OK, FOUND, MEMORY = 0, 1, 3
+ERRORS = {2: ArgumentError, 4: LimitError, 5: AnchoredError, 6: UnanchoredError, 7: OverlappingError}
+
+
+class _Searcher(ctypes.Structure):
+    _fields_ = [("at", ctypes.c_void_p)]
+
+
+class _Options(ctypes.Structure):
+    _fields_ = [(name, ctypes.c_uint32) for name in
+                ("match_kind", "start_kind", "engine", "ignore_case", "prefilter", "byte_classes")]
+    _fields_ += [("dense_depth", ctypes.c_size_t)]
+
+
+class _Span(ctypes.Structure):
+    _fields_ = [("start", ctypes.c_size_t), ("end", ctypes.c_size_t),
+                ("anchored", ctypes.c_uint32), ("earliest", ctypes.c_uint32)]
+
+
+class _Cursor(ctypes.Structure):
+    _fields_ = [("at", ctypes.c_size_t), ("given", ctypes.c_size_t)]
+
+
+class _Facts(ctypes.Structure):
+    _fields_ = [(name, ctypes.c_size_t) for name in ("patterns", "shortest", "longest", "memory")]
+    _fields_ += [(name, ctypes.c_uint32) for name in ("engine", "match_kind", "start_kind")]
+
+
+def _load():
+    """Opens the library, and declares its calls."""
+    beside = os.path.join(os.path.dirname(os.path.abspath(__file__)), "libac.so")
+    library = ctypes.CDLL(os.environ.get("AC_LIBRARY") or (beside if os.path.exists(beside) else "libac.so"))
+    searcher, span, cursor = map(ctypes.POINTER, (_Searcher, _Span, _Cursor))
+    data, size, sizes = ctypes.c_char_p, ctypes.c_size_t, ctypes.POINTER(ctypes.c_size_t)
+    search = [searcher, data, size, span]
+    for name, arguments in {
+        "ac_version": [], "ac_close": [searcher], "ac_describe": [searcher, ctypes.POINTER(_Facts)],
+        "ac_open": [ctypes.POINTER(_Options), data, size, sizes, size, searcher],
+        "ac_find": [*search, sizes], "ac_is_match": search, "ac_count": [*search, sizes],
+        "ac_walk": [*search, cursor, sizes, size, sizes], "ac_overlapping": [*search, cursor, sizes, size, sizes],
+        "ac_replace": [searcher, data, size, data, size, sizes, size, ctypes.c_void_p, size, sizes],
+    }.items():
+        call = getattr(library, name)
+        call.argtypes, call.restype = arguments, ctypes.c_int32
+    library.ac_close.restype = None
+    if library.ac_version() != VERSION:
+        raise ImportError(f"libac.so has version {library.ac_version()}, and {VERSION} is needed")
+    return library
+
+
+_library = _load()
+
+
+def _raise_on(status):
+    """Raises the exception of a status, if it has one."""
+    if status == MEMORY:
+        raise MemoryError("no memory for the searcher or for what it replaces")
+    if status not in (OK, FOUND):
+        raise ERRORS[status](ERRORS[status].__doc__)
+
+
+def _encode(text):
+    return text.encode("utf-8", "surrogatepass")
+
+
+def _decode(data):
+    return data.decode("utf-8", "surrogatepass")
+
+
+def _joined(items):
+    """Returns the bytes of all items, and where each of them ends."""
+    ends, total = (ctypes.c_size_t * len(items))(), 0
+    for number, item in enumerate(items):
+        total += len(item)
+        ends[number] = total
+    return b"".join(items), ends
+
+
+def _number(names, name, what):
+    if name not in names:
+        raise ArgumentError(f"{what} is {name!r}, and can be one of {names}")
+    return names.index(name)
+
+
+class AhoCorasick:
+    """A searcher for patterns, which are all str or all bytes; haystacks then are the same.
+
+    kind      which of several overlapping occurrences is the match. "standard": the one that ends first, of these the one
+              that starts first. "leftmost-first": the one that starts first, of these the first in the list.
+              "leftmost-longest": the one that starts first, of these the longest
+    start     which searches are supported: "unanchored", "anchored" or "both"
+    engine    "noncontiguous-nfa", "contiguous-nfa", "dfa", or None for a choice by the number of patterns. It changes no
+              answer, and neither do prefilter, byte_classes and dense_depth
+
+    In text all offsets count characters, and an empty pattern matches between characters, but not inside one. Each call
+    encodes its text: for many calls over one long text, search bytes.
+    close() frees the memory; so do the end of a with block and the garbage collector. Threads may share a searcher, and its
+    calls take turns.
+    """
+
+    def __init__(self, patterns, kind="standard", ignore_case=False, engine=None, start="unanchored", prefilter=True,
+                 byte_classes=True, dense_depth=2):
+        self._lock, self._searcher, self._close = threading.Lock(), _Searcher(), _library.ac_close
+        if isinstance(patterns, (str, bytes)):
+            raise TypeError("patterns are a list of str or of bytes, and not one of them")
+        patterns = list(patterns)
+        self._type = type(patterns[0]) if patterns else None
+        if self._type not in (None, str, bytes) or any(type(pattern) is not self._type for pattern in patterns):
+            raise TypeError("patterns are all str or all bytes")
+        self._lengths = [len(pattern) for pattern in patterns]
+        self.kind, self.start = kind, start
+        options = _Options(_number(KINDS, kind, "kind"), _number(STARTS, start, "start"), _number(ENGINES, engine, "engine"),
+                           bool(ignore_case), bool(prefilter), bool(byte_classes), dense_depth)
+        data, ends = _joined([self._bytes_of(pattern) for pattern in patterns])
+        _raise_on(_library.ac_open(options, data, len(data), ends, len(ends), self._searcher))
+        facts = _Facts()
+        self._call(_library.ac_describe, facts)
+        self.engine, self.memory_usage = ENGINES[facts.engine], facts.memory
+
+    def close(self):
+        """Frees the memory. Searches are refused from then on."""
+        with self._lock:
+            self._close(self._searcher)
+
+    def __enter__(self):
+        return self
+
+    def __exit__(self, *_):
+        self.close()
+
+    def __del__(self):
+        self._close(self._searcher)
+
+    def __len__(self):
+        return len(self._lengths)
+
+    def find(self, haystack, start=0, end=None, anchored=False, earliest=False):
+        """Returns the match, or None. With `earliest` each kind picks as "standard" does."""
+        data, span = self._span(haystack, start, end, anchored, earliest)
+        found = (ctypes.c_size_t * 3)()
+        if self._call(_library.ac_find, data, len(data), span, found) != FOUND:
+            return None
+        return next(self._matches(haystack, data, start, [[*found]]))
+
+    def is_match(self, haystack, start=0, end=None, anchored=False):
+        """Returns whether a pattern occurs in haystack[start:end]."""
+        data, span = self._span(haystack, start, end, anchored, False)
+        return self._call(_library.ac_is_match, data, len(data), span) == FOUND
+
+    def count(self, haystack, start=0, end=None, anchored=False, earliest=False):
+        """Returns how many matches find_iter has."""
+        if 0 in self._lengths and self._type is str:
+            return sum(1 for _ in self.find_iter(haystack, start, end, anchored, earliest))
+        data, span = self._span(haystack, start, end, anchored, earliest)
+        count = ctypes.c_size_t()
+        self._call(_library.ac_count, data, len(data), span, count)
+        return count.value
+
+    def find_iter(self, haystack, start=0, end=None, anchored=False, earliest=False):
+        """Returns an iterator over matches that don't overlap: the match, then the match in what follows it, and so on."""
+        data, span = self._span(haystack, start, end, anchored, earliest)
+        return self._matches(haystack, data, start, self._batches(_library.ac_walk, data, span))
+
+    def find_overlapping_iter(self, haystack, start=0, end=None):
+        """Returns an iterator over all occurrences, ordered by end, then start, then number."""
+        data, span = self._span(haystack, start, end, False, False)
+        return self._matches(haystack, data, start, self._batches(_library.ac_overlapping, data, span))
+
+    def replace_all(self, haystack, replacements):
+        """Returns the haystack with each match of find_iter replaced by the item of its pattern in replacements."""
+        replacements = list(replacements)
+        if any(type(replacement) is not type(haystack) for replacement in replacements):
+            raise TypeError("replacements are of the haystack's type")
+        if 0 in self._lengths and self._type is str and len(replacements) == len(self):
+            return self._replace_characters(haystack, replacements)
+        data = self._bytes_of(haystack)
+        texts, ends = _joined([self._bytes_of(replacement) for replacement in replacements])
+        needed = ctypes.c_size_t(len(data) + len(data) // 4)
+        room = -1
+        while room < needed.value:
+            room = needed.value
+            out = ctypes.create_string_buffer(room)
+            self._call(_library.ac_replace, data, len(data), texts, len(texts), ends, len(ends), out, room, needed)
+        replaced = ctypes.string_at(out, needed.value)
+        return replaced if type(haystack) is bytes else _decode(replaced)
+
+    def _replace_characters(self, haystack, replacements):
+        pieces, at = [], 0
+        for match in self.find_iter(haystack):
+            pieces += [haystack[at:match.start], replacements[match.pattern]]
+            at = match.end
+        return "".join(pieces) + haystack[at:]
+
+    def _call(self, call, *arguments):
+        """Calls the library, and returns the status if it is no error."""
+        with self._lock:
+            if not self._searcher.at:
+                raise ArgumentError("the searcher is closed")
+            status = call(self._searcher, *arguments)
+        _raise_on(status)
+        return status
+
+    def _bytes_of(self, text):
+        if type(text) not in (str, bytes) or self._type not in (None, type(text)):
+            raise TypeError(f"{self._type.__name__ if self._type else 'str or bytes'} is needed, and not {type(text).__name__}")
+        return _encode(text) if type(text) is str else text
+
+    def _span(self, haystack, start, end, anchored, earliest):
+        """Returns a haystack's bytes, and which of them are searched and how."""
+        data = self._bytes_of(haystack)
+        end = len(haystack) if end is None else end
+        if not 0 <= start <= end <= len(haystack):
+            raise ArgumentError(f"no span {start}..{end} in a haystack of length {len(haystack)}")
+        if len(data) != len(haystack):
+            start, end = len(_encode(haystack[:start])), len(_encode(haystack[:end]))
+        return data, _Span(start, end, bool(anchored), bool(earliest))
+
+    def _batches(self, call, data, span):
+        """Returns an iterator over batches of matches, as flat lists of numbers. A refused search raises here."""
+        cursor, filled = _Cursor(span.start, 0), ctypes.c_size_t()
+        self._call(call, data, len(data), span, cursor, None, 0, filled)
+
+        def batches():
+            numbers, filled.value = (ctypes.c_size_t * (3 * BATCH))(), BATCH
+            while filled.value == BATCH:
+                self._call(call, data, len(data), span, cursor, numbers, BATCH, filled)
+                yield numbers[:3 * filled.value]
+
+        return batches()
+
+    def _matches(self, haystack, data, start, batches):
+        """Yields the matches of such batches, with offsets in the haystack."""
+        is_wide = len(data) != len(haystack)
+        characters, at = start, len(_encode(haystack[:start])) if is_wide else start
+        for numbers in batches:
+            for pattern, begin, end in zip(numbers[::3], numbers[1::3], numbers[2::3]):
+                if not is_wide:
+                    yield Match(pattern, begin, end)
+                elif end == len(data) or data[end] & 0xC0 != 0x80:
+                    # Ends ascend, so each character is counted once. A match has as many characters as its pattern.
+                    characters += len(_decode(data[at:end]))
+                    at = end
+                    yield Match(pattern, characters - self._lengths[pattern], characters)

@@ -1,0 +1,124 @@
+//! Replacement of the matches of a walk. Each call without `try_` panics where the one with it returns an error.
+use crate::ahocorasick::AhoCorasick;
+use crate::error::MatchError;
+use crate::search::Match;
+
+impl AhoCorasick {
+    /// Returns the haystack with each match replaced by the text of its pattern. Matches that begin or end inside a character
+    /// are not replaced; only an empty pattern, or one that isn't UTF-8, has such. Panics if there aren't as many texts as
+    /// patterns.
+    ///
+    /// ```
+    /// use aho_corasick_rattle::AhoCorasick;
+    ///
+    /// let searcher = AhoCorasick::new(["fox", "brown", "quick"])?;
+    /// let sloth = searcher.replace_all("The quick brown fox.", &["sloth", "grey", "slow"]);
+    /// assert_eq!(sloth, "The slow grey sloth.");
+    /// # Ok::<(), aho_corasick_rattle::BuildError>(())
+    /// ```
+    pub fn replace_all<B: AsRef<str>>(&self, haystack: &str, replace_with: &[B]) -> String {
+        self.supported(self.try_replace_all(haystack, replace_with))
+    }
+
+    /// Returns the haystack with each match replaced by the bytes of its pattern. Panics if there aren't as many of these as
+    /// patterns.
+    pub fn replace_all_bytes<B: AsRef<[u8]>>(&self, haystack: &[u8], replace_with: &[B]) -> Vec<u8> {
+        self.supported(self.try_replace_all_bytes(haystack, replace_with))
+    }
+
+    /// Appends the haystack to `dst`, but calls the closure in place of each match, with the text that matched. Once it
+    /// returns false the rest is appended unchanged. Matches that begin or end inside a character are not replaced.
+    pub fn replace_all_with<F>(&self, haystack: &str, dst: &mut String, replace_with: F)
+    where
+        F: FnMut(&Match, &str, &mut String) -> bool,
+    {
+        self.supported(self.try_replace_all_with(haystack, dst, replace_with))
+    }
+
+    /// Does the same with bytes. All matches are replaced.
+    pub fn replace_all_with_bytes<F>(&self, haystack: &[u8], dst: &mut Vec<u8>, replace_with: F)
+    where
+        F: FnMut(&Match, &[u8], &mut Vec<u8>) -> bool,
+    {
+        self.supported(self.try_replace_all_with_bytes(haystack, dst, replace_with))
+    }
+
+    /// [`AhoCorasick::replace_all`]. It is an error if the searcher supports anchored searches only.
+    pub fn try_replace_all<B: AsRef<str>>(&self, haystack: &str, replace_with: &[B]) -> Result<String, MatchError> {
+        let mut replaced = String::with_capacity(haystack.len());
+        let texts = self.texts(replace_with);
+        self.try_replace_all_with(haystack, &mut replaced, |found, _, dst| {
+            dst.push_str(texts[found.pattern().as_usize()].as_ref());
+            true
+        })?;
+        Ok(replaced)
+    }
+
+    /// [`AhoCorasick::replace_all_bytes`]. It is an error if the searcher supports anchored searches only.
+    pub fn try_replace_all_bytes<B: AsRef<[u8]>>(
+        &self,
+        haystack: &[u8],
+        replace_with: &[B],
+    ) -> Result<Vec<u8>, MatchError> {
+        let mut replaced = Vec::with_capacity(haystack.len());
+        let texts = self.texts(replace_with);
+        self.try_replace_all_with_bytes(haystack, &mut replaced, |found, _, dst| {
+            dst.extend_from_slice(texts[found.pattern().as_usize()].as_ref());
+            true
+        })?;
+        Ok(replaced)
+    }
+
+    /// [`AhoCorasick::replace_all_with`]. It is an error if the searcher supports anchored searches only.
+    pub fn try_replace_all_with<F>(
+        &self,
+        haystack: &str,
+        dst: &mut String,
+        mut replace_with: F,
+    ) -> Result<(), MatchError>
+    where
+        F: FnMut(&Match, &str, &mut String) -> bool,
+    {
+        let mut copied = 0;
+        for found in self.try_find_iter(haystack)? {
+            if !haystack.is_char_boundary(found.start()) || !haystack.is_char_boundary(found.end()) {
+                continue;
+            }
+            dst.push_str(&haystack[copied..found.start()]);
+            copied = found.end();
+            if !replace_with(&found, &haystack[found.range()], dst) {
+                break;
+            }
+        }
+        dst.push_str(&haystack[copied..]);
+        Ok(())
+    }
+
+    /// [`AhoCorasick::replace_all_with_bytes`]. It is an error if the searcher supports anchored searches only.
+    pub fn try_replace_all_with_bytes<F>(
+        &self,
+        haystack: &[u8],
+        dst: &mut Vec<u8>,
+        mut replace_with: F,
+    ) -> Result<(), MatchError>
+    where
+        F: FnMut(&Match, &[u8], &mut Vec<u8>) -> bool,
+    {
+        let mut copied = 0;
+        for found in self.try_find_iter(haystack)? {
+            dst.extend_from_slice(&haystack[copied..found.start()]);
+            copied = found.end();
+            if !replace_with(&found, &haystack[found.range()], dst) {
+                break;
+            }
+        }
+        dst.extend_from_slice(&haystack[copied..]);
+        Ok(())
+    }
+
+    /// Checks that there is a text for each pattern.
+    fn texts<'t, B>(&self, replace_with: &'t [B]) -> &'t [B] {
+        assert_eq!(replace_with.len(), self.patterns_len(), "replacement needs one text for each pattern");
+        replace_with
+    }
+}

@@ -1,0 +1,7 @@
+use Rattle.std.proofs.Common.{rules}
+use Rattle.ac_c.proofs.ListLemmas.{drop-next}
+use Rattle.ac_c.proofs.overlapping.pass.Goals as goal
+
+-- one more was passed over
+pub loop-preserved : goal.loop-preserved
+loop-preserved c = search (rules, drop-next)

@@ -1,0 +1,21 @@
+//! The exports for C of `ac_search`, which searches for many patterns at once.
+//!
+//! A handle owns a searcher, or is empty. C lends the searcher to a call as a reader, and a slice as a pointer, which
+//! isn't null, and a length. All else is tested: whatever numbers C passes, a call does no harm.
+#![tactic(auto)]
+
+pub mod facts;
+pub mod find;
+pub mod handle;
+pub mod laws;
+pub mod open;
+pub mod options;
+pub mod overlapping;
+pub mod reader;
+pub mod replace;
+pub mod search;
+pub mod status;
+#[cfg(test)]
+mod tests;
+pub mod texts;
+pub mod walk;

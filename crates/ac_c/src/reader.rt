@@ -1,0 +1,29 @@
+//! The right to read a searcher that C lends: a share of it, as its address.
+//!
+//! What a `Reader` owns, and that it lends the searcher, is proved by hand.
+ghost use Rattle.std.specs.Prelude.{ℕ};
+ghost use Rattle.ac_search.specs.Searchers.{Searcher};
+ghost use Rattle.ac_c.specs.Ownership.{part_owns, searcher_row};
+
+use std::marker::Model;
+
+mod lend;
+
+/// The right to read the searcher of a handle, whose address it has. C makes one of a handle that isn't empty, and uses it
+/// no longer than the handle.
+#[repr(C)]
+#[derive(Drop)]
+pub struct Reader {
+    /// The address of the searcher.
+    pub at: *const u8,
+    /// The searcher.
+    pub ghost searcher: { Searcher },
+    /// The lifetime for which it is shared.
+    pub ghost lifetime: { ℕ },
+    /// How many parts of that lifetime the reader has.
+    pub ghost parts: { ℕ },
+}
+
+impl Model for Reader {
+    ghost also_owns = { λ r. part_owns searcher_row r.at r.searcher r.lifetime r.parts };
+}
