@@ -79,8 +79,9 @@ impl<A: Allocator> AhoCorasick<A> {
     /// # Errors
     /// Those of `try_stream_find_iter`: then nothing was read or written. `Io` where a read or a write failed, and
     /// `TooLong` where more bytes came than a `usize` counts: what was written before that read stays written.
-    /// `WriteZero` where a write took no byte. Where a write failed or took nothing, a beginning of the replaced text
-    /// of what was read was written.
+    /// `WriteZero` where a write took no byte. Where a write failed or took nothing, a prefix was written of the replaced
+    /// text as far as no byte to come can change it. The law `lists_write_exchanged` says what was written by the stream
+    /// alone.
     ///
     /// ```
     /// // a searcher over "fox", "brown" and "quick"
@@ -114,10 +115,10 @@ impl<A: Allocator> AhoCorasick<A> {
     ///
     /// # Errors
     /// As `try_stream_replace_all`; and `Io` where the closure failed: what it wrote stays written, and nothing
-    /// follows.
+    /// follows. The law `closures_write_exchanged` says what was written by the stream alone.
     ///
     /// ```
-    /// // a searcher over "fox", "brown" and "quick"; a `Written` takes all of each piece
+    /// // a searcher over "fox", "brown" and "quick"
     /// let mut reader = Bytes::new(b"The quick brown fox.");
     /// let mut writer = Written::new(alloc);
     /// searcher.try_stream_replace_all_with(
@@ -125,9 +126,9 @@ impl<A: Allocator> AhoCorasick<A> {
     ///     &mut reader,
     ///     &mut writer,
     ///     |_, slice, writer: &mut Written<Global>| {
-    ///         writer.write_some(b"<")?;
-    ///         writer.write_some(slice)?;
-    ///         writer.write_some(b">")?;
+    ///         write_all(writer, b"<")?;
+    ///         write_all(writer, slice)?;
+    ///         write_all(writer, b">")?;
     ///         Ok(())
     ///     },
     /// )?; // writes "The <quick> <brown> <fox>."
