@@ -46,12 +46,6 @@ nonempty-served built served = by (has_empty built) refl
     by false is = is
     by true is = grind (arith, common_steps)
 
--- what came of a stream that is settled
-reads-in : {ends : Bool} {built : Built} {reader new_reader : Reading} {bytes : List ℕ} {given place : ℕ}
-    → IsSettled ends built reader new_reader bytes given place → ReadsSome reader new_reader bytes ⊎ ReadsAll ends reader new_reader bytes
-reads-in (inl (some, settled)) = inl some
-reads-in (inr (all, many)) = inr all
-
 module _ (built : Built) (texts : List (List ℕ)) (ends : Bool) (reader new_reader : Reading) (writer new_writer : Writing) where
   -- the replaced text of a haystack was written, or could not be
   pub replaced-ends : (haystack whole : List ℕ) (r : Result Outcome Fault)
@@ -87,6 +81,12 @@ module _ (built : Built) (texts : List (List ℕ)) (ends : Bool) (reader new_rea
     stream-printed begun (Ok outcome) served is prints = grind (arith, common_steps)
     stream-printed begun (Err fault) served is fails = search (rules, lines-settled)
 
+  -- what came of a stream that is settled
+  reads-in : (bytes : List ℕ) (given place : ℕ) → IsSettled ends built reader new_reader bytes given place
+      → ReadsSome reader new_reader bytes ⊎ ReadsAll ends reader new_reader bytes
+  reads-in bytes given place (inl (some, settled)) = inl some
+  reads-in bytes given place (inr (reads, all, many)) = inr reads
+
   -- a read or a write has failed while a stream was replaced. What is settled begins the whole
   module _ (begins : (over : Built) (write : Occurrence → List ℕ → List ℕ) (bytes more : List ℕ) → SettledBegins over write bytes more) where
     whole-of : (bytes : List ℕ) (given place : ℕ) → has_empty built ≡ false
@@ -109,7 +109,7 @@ module _ (built : Built) (texts : List (List ℕ)) (ends : Bool) (reader new_rea
           record {
             bytes = bytes;
             cause = inr (
-              reads-in settled,
+              reads-in bytes given place settled,
               write-fails failure (is ∙ ap stream_fault_of why)
                   (fails-whole failure (whole-of bytes given place (nonempty-served built served) settled) fails),
             );
