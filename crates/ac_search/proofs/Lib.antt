@@ -2,9 +2,9 @@ pub mod Served
 pub mod StreamsServed
 pub mod SomeMatch
 pub mod InOrder
-pub mod StreamCounts
 pub mod Words
 pub mod StreamsWritten
 pub mod TokenLemmas
 pub mod LabelCounts
 pub mod Tokenizing
+pub mod StreamLoops

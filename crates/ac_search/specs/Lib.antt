@@ -6,6 +6,7 @@ pub mod Callers
 pub mod Engines
 pub mod Prelude
 pub mod Searchers
+pub mod StreamLoops
 -- what is asked, what occurs, and what answers it
 pub use Rattle.ac_util.specs.Input
 pub use Rattle.ac_util.specs.Occurrence

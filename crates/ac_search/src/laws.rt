@@ -10,6 +10,7 @@ ghost use Rattle.ac_automaton.specs.Overlaps.{ListsNext};
 ghost use Rattle.ac_automaton.specs.Streams.{GivesStreamItem, items_left};
 ghost use Rattle.ac_search.specs.Alike.{ClosuresWrite, ListsWrite, UnchangedBegins, BuildAlike, FindAlike, ListAlike, ReplaceAlike, SettlesAlike, StreamAlike, EndsAtError, LeavesLess, StaysEnded, EndsInside, FindsOnly, IsNumberedBelow, ListsOnly, SomeOccurs, StandApart, StandInOrder, StandsBetweenCharacters, WalksApart, WalksFew, WalksOnly, WalksInOrder, AreWords};
 ghost use Rattle.ac_search.specs.Searchers.{Settings};
+ghost use Rattle.ac_search.specs.StreamLoops.{BeginsUnderway, ErrorLeavesSettled, MatchGoesOn, NoneEnds};
 ghost use Rattle.ac_search.specs.declared.ahocorasick.choice.AhoCorasickKind.{AhoCorasickKind};
 ghost use Rattle.ac_engines.specs.declared.nfa.contiguous.format.Format.{Format};
 
@@ -177,6 +178,19 @@ pub fn iterators_end()
     ensures walk { LeavesLess (λ w. length w.rest) GoesOn }
     ensures listing { LeavesLess (λ l. length l.rest) ListsNext }
     ensures stream { (ends : Bool) → LeavesLess items_left (GivesStreamItem ends) }
+{}
+
+/// What a loop over `StreamFinder::next` has seen. A search that begins is under way and has given no match. Each match that it
+/// gives is one more of those of the stream, and is never taken back. At `None` it has given all of them. At an error it has
+/// given those of the bytes that came which no longer stream changes; under `MatchKind::Standard` these are all of them.
+///
+/// Call this before such a loop. The loop's invariant is then that the search is under way (`IsUnderway`), and what the loop has
+/// made of the matches that were given (`given_matches`).
+pub fn finder_goes_on()
+    ensures begins { (built : Built) → BeginsUnderway built }
+    ensures goes_on { (built : Built) (ends : Bool) → MatchGoesOn built ends }
+    ensures ends { (built : Built) (ends : Bool) → NoneEnds built ends }
+    ensures failed { (built : Built) → ErrorLeavesSettled built }
 {}
 
 /// Whichever starts are supported, a stream is settled up to the same offsets by the same matches.

@@ -4,7 +4,7 @@ ghost use Rattle.std.specs.Io.KnownBytes.{Consumes};
 ghost use Rattle.ac_search.specs.Callers.{CountsEach};
 ghost use Rattle.ac_search.specs.Stream.{stream_result};
 
-use crate::laws::matches_lie_inside;
+use crate::laws::finder_goes_on;
 use crate::tests::devices::{ALWAYS, Pieces};
 use crate::tests::same;
 use crate::{AhoCorasick, MatchKind, Source, StreamError};
@@ -30,7 +30,7 @@ fn counts_of<R: Source>(
         × Consumes (R.told log.old).left (R.told log.new).left bytes
         × CountsEach (length searcher.now.built.patterns) counts.matches.items (stream_result searcher.now.built bytes)) }
 {
-    matches_lie_inside();
+    finder_goes_on();
     let mut finder = searcher.try_stream_finder(alloc)?;
     let mut matches = vec![in alloc; 0usize; searcher.patterns_len()]?;
     while let Some(item) = finder.next(log) {

@@ -1,38 +1,39 @@
-use Rattle.std.proofs.Common.{◌≡◌, arith, rules}
-use Rattle.ac_util.specs.declared.error.StreamError.TheVariants.{Io}
-use Rattle.ac_search.proofs.LabelCounts.{counts-none}
-use Rattle.ac_search.proofs.StreamCounts.{CountsOn, counting-begins, counting-ends, counting-fails, counting-goes_on, counts-on}
-use Rattle.ac_search.proofs.tests.callers.log_count.counts_of.Given.{Over}
+use Rattle.std.proofs.Common.{arith, rules, subst, sym}
+use Rattle.std.proofs.lemmas.Grind.{common_steps}
+use Rattle.ac_search.specs.Callers.{CountsEach}
+use Rattle.ac_search.proofs.LabelCounts.{counts-few, counts-more}
 use Rattle.ac_search.proofs.tests.callers.log_count.counts_of.Goals as goal
+
+pub loop-item-init : goal.loop-item-init
+loop-item-init g c =
+    let begun = c.finder_goes_on.ensures.begins _ (g.R.Source.told c.args.log.now) c.in_ok-finder.finder c.in_ok-finder.ensures.1 in
+    let none = begun.1 in
+    record { underway = begun.0; counted = record { whole = search rules; each = λ i d less. grind (arith, common_steps); }; }
 
 pub index_mut-requires : goal.index_mut-requires
 index_mut-requires g c =
-    let on = counts-on c.loop-item.invariant.counting c.loop-item.matches.items c.loop-item.invariant.counted
-    g.R.Source.empty_means_end c.matches_lie_inside.ensures.walk (rw c.in-Ok.is at c.in-Some.ensures) in
-    search (rules, on.within)
+    let one = c.finder_goes_on.ensures.goes_on _ _ _ _ _ _ _ c.in-Ok.m c.loop-item.invariant.underway (rw c.in-Ok.is at c.in-Some.ensures) in
+    let whole = c.loop-item.invariant.counted.whole in search (rules, one.numbered)
 
 pub overflow_add-index_mut : goal.overflow_add-index_mut
 overflow_add-index_mut g c =
-    let on = counts-on c.loop-item.invariant.counting c.loop-item.matches.items c.loop-item.invariant.counted
-    g.R.Source.empty_means_end c.matches_lie_inside.ensures.walk (rw c.in-Ok.is at c.in-Some.ensures) in
-    search (rules, on.room 0)
+    let one = c.finder_goes_on.ensures.goes_on _ _ _ _ _ _ _ c.in-Ok.m c.loop-item.invariant.underway (rw c.in-Ok.is at c.in-Some.ensures) in
+    let few = counts-few c.loop-item.invariant.counted c.in-Ok.m.pattern c.index_mut.result.now one.numbered in
+    let room = one.few in let more = one.one_more in grind (arith, common_steps)
 
 pub loop-item-preserved : goal.loop-item-preserved
 loop-item-preserved g c =
-    let on = counts-on c.loop-item.invariant.counting c.loop-item.matches.items c.loop-item.invariant.counted
-    g.R.Source.empty_means_end c.matches_lie_inside.ensures.walk (rw c.in-Ok.is at c.in-Some.ensures) in
-    record {
-      counting = search (rules, counting-goes_on);
-      counted = search (rules, on.next 0);
-    }
+    let one = c.finder_goes_on.ensures.goes_on _ _ _ _ _ _ _ c.in-Ok.m c.loop-item.invariant.underway (rw c.in-Ok.is at c.in-Some.ensures) in
+    let more = counts-more c.loop-item.invariant.counted c.in-Ok.m c.index_mut.result.now one.numbered in
+    record { underway = one.underway; counted = subst (CountsEach _ _) (sym one.one_more) (search (rules, more)); }
 
 pub returns-in-Err-Io : goal.returns-in-Err-Io
 returns-in-Err-Io g c =
-    let gives = rw c.in-Err-Io.is at c.in-Some.ensures in
-    let is : c.in-Err-Io.field-0 ≡ Io c.in-Err-Io.field-0-0 = search rules in
-    counting-fails c.loop-item.invariant.counting c.loop-item.matches.items c.loop-item.invariant.counted c.requires is gives
+    let stopped = c.finder_goes_on.ensures.failed _ _ _ _ _ _ c.in-Err-Io.field-0 c.loop-item.invariant.underway
+    (rw c.in-Err-Io.is at c.in-Some.ensures) in
+    (_, stopped.read c.in-Err-Io.field-0-0 (search rules), subst (CountsEach _ _) (stopped.all c.requires) c.loop-item.invariant.counted)
 
 pub returns : goal.returns
 returns g c =
-    counting-ends c.loop-item.invariant.counting c.loop-item.matches.items c.loop-item.invariant.counted
-    g.R.Source.empty_means_end c.next.new.self (g.R.Source.told c.next.new.reader) c.in_default.ensures
+    let all = c.finder_goes_on.ensures.ends _ _ _ _ _ _ _ c.loop-item.invariant.underway c.in_default.ensures in
+    (_, all.underway.read, subst (CountsEach _ _) all.all c.loop-item.invariant.counted)

@@ -1,16 +1,14 @@
-use Rattle.std.proofs.Common.{◌-◌, length, take}
+use Rattle.std.proofs.Common.{◌-◌, length}
 use Rattle.ac_search.specs.Callers.{CountsEach}
 use Rattle.ac_search.specs.Patterns.{usize_max}
-use Rattle.ac_search.specs.Stream.{stream_result}
-use Rattle.ac_search.proofs.StreamCounts.{IsCounting}
+use Rattle.ac_search.specs.StreamLoops.{given_matches, IsUnderway}
 use Rattle.ac_search.proofs.tests.callers.log_count.counts_of.Given as goal
 
 abbrev pub invariant-loop-item : goal.invariant-loop-item
 invariant-loop-item g l =
     record {
-      counting : IsCounting l.searcher.built l.finder (g.R.Source.told l.fn.log) (g.R.Source.told l.log);
-      counted : CountsEach (length l.searcher.built.patterns) l.matches.items
-          (take l.finder.given (stream_result l.searcher.built l.finder.bytes));
+      underway : IsUnderway l.searcher.built (g.R.Source.told l.fn.log) (g.R.Source.told l.log) l.finder;
+      counted : CountsEach (length l.searcher.built.patterns) l.matches.items (given_matches l.searcher.built l.finder);
     }
 
 -- no more matches are given than usize counts

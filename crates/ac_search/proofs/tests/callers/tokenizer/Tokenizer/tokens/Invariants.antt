@@ -5,4 +5,4 @@ use Rattle.ac_search.proofs.tests.callers.tokenizer.Tokenizer.tokens.Given as go
 
 abbrev pub invariant-loop-m : goal.invariant-loop-m
 invariant-loop-m l =
-    Tokenizing l.text (walk_result l.self (whole_input l.text)) l.tokens.items l.end l.m-iterator.rest
+    Tokenizing l.text (walk_result l.self (whole_input l.text)) l.m-iterator.rest l.tokens.items l.end
