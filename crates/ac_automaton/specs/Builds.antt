@@ -28,7 +28,7 @@ engine_built_by settings patterns = record {
   start_kind = Both;
 }
 
--- why it is refused within the limits of the list, if it is, but for want of memory
+-- why it is refused within the limits of the list, if it is, but for lack of memory
 abbrev pub state_refusal : EngineSettings → List (List ℕ) → Option BuildError
 state_refusal settings patterns = too_many_states settings.kind (map (plain settings.ignores_case) patterns)
 
@@ -48,7 +48,7 @@ abbrev pub refusal_or : Option BuildError → Option BuildError → Option Build
 refusal_or None later = later
 refusal_or (Some e) later = Some e
 
--- why a build is refused within the limits of the list: for want of memory, or by a limit of its own
+-- why a build is refused within the limits of the list: for lack of memory, or by a limit of its own
 abbrev pub IsRefused : Option BuildError → BuildError → Type 0
 IsRefused own_refusal e = (e ≡ Memory) ⊎ (own_refusal ≡ Some e)
 

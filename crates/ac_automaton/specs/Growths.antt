@@ -44,7 +44,7 @@ pub record HasPushed (ignores_case : Bool) (byte : ℕ) (p : QueuedState) (trans
   pub waits : new_queue ≡ queue ++ p ∷ []
   pub numbered : FIRST_INNER + length queue < GREATEST + 1
 
--- it has not: for want of memory, where a number is left for it, or because none is
+-- it has not: for lack of memory, where a number is left for it, or because none is
 abbrev pub IsNotPushed : List QueuedState → BuildError → Type 0
 IsNotPushed queue e =
     ((e ≡ Memory) × (FIRST_INNER + length queue ≤ GREATEST))
@@ -216,7 +216,7 @@ pub record IsWhole (texts : List (List ℕ)) (ignores_case : Bool) (kind : Match
   }) order transitions states) nodes
   pub few : too_many_states kind (map (plain ignores_case) texts) ≡ None
 
--- the lists of an automaton over these patterns are made, or refused: for want of memory, or for too many states
+-- the lists of an automaton over these patterns are made, or refused: for lack of memory, or for too many states
 abbrev pub BuildsLists : {Z : Type 0} → List (List ℕ) → Bool → MatchKind → Result (TrieLists Z) BuildError → Type 0
 BuildsLists texts ignores_case kind result =
     MatchResult result

@@ -106,7 +106,7 @@ looks_allowed NoncontiguousNFA = 2
 looks_allowed ContiguousNFA = 2
 looks_allowed DFA = 1
 
--- why an engine can't be built within the limits of the list, if it can't, but for want of memory: the automaton from
+-- why an engine can't be built within the limits of the list, if it can't, but for lack of memory: the automaton from
 -- which it is made is tested first
 abbrev pub refusal_of : AhoCorasickKind → Settings → List (List ℕ) → Option BuildError
 refusal_of kind settings patterns =

@@ -90,7 +90,7 @@ MatchStreamError (Io e) refused memory io zero long = io
 MatchStreamError WriteZero refused memory io zero long = zero
 MatchStreamError TooLong refused memory io zero long = long
 
--- a refused call changes nothing; it is refused for want of memory only where the settings don't refuse it
+-- a refused call changes nothing; it is refused for lack of memory only where the settings don't refuse it
 abbrev pub IsStreamRefused : Option MatchError → Type 0 → StreamError → Type 0
 IsStreamRefused refusal unchanged e =
     MatchStreamError e (λ m. (refusal ≡ Some m) × unchanged) ((refusal ≡ None) × unchanged) ⊥ ⊥ ⊥

@@ -57,7 +57,7 @@ module _ (all rest : List Occurrence) (old new : Writing) (text : List ℕ) (out
       → WritesAll old later (lines all) × (outcome ≡ outcome_of all)
   printing-ends later e w = grind (arith, common_steps)
 
-  -- for want of memory for the next line it ends with what is written
+  -- for lack of memory for the next line it ends with what is written
   pub printing-wants : (m : Occurrence) (later : List Occurrence) → rest ≡ m ∷ later
       → FailsToPrint old new (lines all) Memory
   printing-wants m later e = grind (arith, common_steps)

@@ -56,7 +56,7 @@ abbrev pub write_fault_of : WriteError → Fault
 write_fault_of (WriteFailed e) = Io
 write_fault_of WroteNothing = WriteZero
 
--- the fault of a build over these patterns that was refused: a limit of the list is reported before want of memory
+-- the fault of a build over these patterns that was refused: a limit of the list is reported before lack of memory
 abbrev pub IsRefusal : Settings → List (List ℕ) → Fault → Type 0
 IsRefusal settings patterns fault =
     (e : BuildError) × (fault ≡ fault_of e) × RefusesBy (engine_refusal settings patterns) patterns e

@@ -39,7 +39,7 @@ pub enum Outcome {
 /// - `TooManyPatterns` and `PatternTooLong` exactly where that limit of the list is passed.
 /// - `TooManyStates` only where the engine that serves would be too large for the numbers of states.
 /// - `OverlappingKind` exactly where a leftmost kind is asked for in the mode `overlap`, and `StreamEmpty` exactly where some
-///   pattern is empty in the modes `stream` and `sreplace`; if no limit or want of memory refused the searcher. `StreamKind`
+///   pattern is empty in the modes `stream` and `sreplace`; if no limit or lack of memory refused the searcher. `StreamKind`
 ///   never.
 /// - `Io` where a read or a write failed, `WriteZero` where a write took no byte, and `TooLong` where more bytes came in the
 ///   modes `stream` and `sreplace` than a `usize` counts.

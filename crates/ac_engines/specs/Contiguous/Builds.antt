@@ -29,7 +29,7 @@ contiguous_refusal dense_depth byte_classes from =
     then Some (StateIdOverflow GREATEST (words_from dense_depth byte_classes from))
     else None
 
--- why a build by these settings is refused within the limits of the list, if it is, but for want of memory: the
+-- why a build by these settings is refused within the limits of the list, if it is, but for lack of memory: the
 -- numbers of the automaton's states are tested before those of the packed ones
 abbrev pub contiguous_refusal_by : ContiguousSettings → List (List ℕ) → Option BuildError
 contiguous_refusal_by settings patterns =

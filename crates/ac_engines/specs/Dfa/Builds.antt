@@ -32,7 +32,7 @@ abbrev pub dfa_refusal : StartKind → Bool → Built → Option BuildError
 dfa_refusal start_kind byte_classes from =
     rows_refusal start_kind (classes_by byte_classes from.ignores_case from.patterns) (state_count from.kind (plain_of from))
 
--- why a build by these settings is refused within the limits of the list, if it is, but for want of memory: the
+-- why a build by these settings is refused within the limits of the list, if it is, but for lack of memory: the
 -- numbers of the automaton's states are tested before those of the DFA's
 abbrev pub dfa_refusal_by : DfaSettings → List (List ℕ) → Option BuildError
 dfa_refusal_by settings patterns =

@@ -1,4 +1,4 @@
-//! Searchers past sizes at which a body might answer otherwise, or report want of memory that wasn't refused.
+//! Searchers past sizes at which a body might answer otherwise, or report lack of memory that wasn't refused.
 ghost use Rattle.std.specs.Iterator.{IsFinite};
 
 use super::same_by;

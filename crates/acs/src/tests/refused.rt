@@ -22,7 +22,7 @@ const SENTENCE: &str = "append the app to the appendage";
 
 /// A call that is tried with more or less memory.
 trait Call {
-    /// Makes the call with memory from `alloc`, and returns whether it had room. If not, it reported want of memory.
+    /// Makes the call with memory from `alloc`, and returns whether it had room. If not, it reported lack of memory.
     ///
     /// # Errors
     /// Where it had room and answered something else than it has to; and where it had none and reported another
@@ -30,7 +30,7 @@ trait Call {
     fn has_room<A: Allocator + Clone>(&self, alloc: A) -> Result<bool, Fail>;
 }
 
-/// Returns the value of a call, or none where it was refused for want of memory.
+/// Returns the value of a call, or none where it was refused for lack of memory.
 ///
 /// # Errors
 /// Where it was refused for another cause.
