@@ -134,8 +134,8 @@ pub trait Automaton {
         requires within { index < length ((seen self.now).listed sid) }
         ensures { slice_get ((seen self.now).listed sid) index ≡ Some result };
 
-    /// Returns the first match in a rest of a match list and the rest after it, or `None` where the rest is empty. A
-    /// list is gone through with it in as many steps as it has matches.
+    /// Returns the first match in a rest of a match list and the rest after it, or `None` if the rest is empty. So a
+    /// list is read in as many steps as it has matches.
     fn take_match(&self, rest: MatchRest) -> Option<(PatternID, MatchRest)>
         requires state { IsAnyState (seen self.now) rest.state }
         ensures taken { Takes (seen self.now).listed rest result }

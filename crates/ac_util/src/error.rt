@@ -65,26 +65,26 @@ impl<T: Drop> From<AllocFailed<T>> for BuildError {
 #[derive(Clone, Copy, PartialEq, Eq, Debug, Error)]
 pub enum MatchError {
     /// The input is anchored, and the searcher supports no anchored search or the call has no anchored form.
-    #[error("no anchored search is served")]
+    #[error("anchored searches are not supported")]
     InvalidInputAnchored,
     /// The search is unanchored, and the searcher supports anchored searches only.
-    #[error("no unanchored search is served")]
+    #[error("unanchored searches are not supported")]
     InvalidInputUnanchored,
     /// The search is overlapping, which needs `MatchKind::Standard`.
-    #[error("no overlapping search is served by the match kind {got:?}")]
+    #[error("overlapping searches are not supported with {got:?}")]
     UnsupportedOverlapping {
         /// The match kind of the searcher.
         got: MatchKind,
     },
     /// The search is over a stream, with a match kind that supports none. No call returns it, since every match kind
     /// supports streams here; upstream's streams need `MatchKind::Standard`.
-    #[error("no search of a stream is served by the match kind {got:?}")]
+    #[error("searches of streams are not supported with {got:?}")]
     UnsupportedStream {
         /// The match kind of the searcher.
         got: MatchKind,
     },
     /// The search is over a stream, and some pattern is empty.
-    #[error("no search of a stream is served where a pattern is empty")]
+    #[error("searches of streams are not supported with an empty pattern")]
     UnsupportedEmpty,
 }
 
@@ -215,7 +215,7 @@ mod tests {
         let kind = MatchError::UnsupportedOverlapping {
             got: MatchKind::LeftmostFirst,
         };
-        let text = "no overlapping search is served by the match kind LeftmostFirst";
+        let text = "overlapping searches are not supported with LeftmostFirst";
         compare_shown(&rt, alloc, &kind, text)?;
         compare_shown(&rt, alloc, &ReplaceError::Match(kind), text)?;
         compare_shown(&rt, alloc, &StreamError::Match(kind), text)

@@ -25,7 +25,7 @@ use std::marker::Model;
 /// least once and at most `LOOKS` times on the whole. No byte is read from the dead node on, where nothing more is
 /// found: an anchored search is there once it has left all patterns, and a leftmost one once its match can't change.
 /// Under `MatchKind::Standard` or with `earliest` no byte past the end of the match is read, so the next find can go on
-/// with the same tape. An unanchored search skips ahead with the automaton's prefilter where that pays: it calls it at
+/// with the same tape. An unanchored search skips ahead with the automaton's prefilter where it helps: it calls it at
 /// most once for each byte of the span, and the answer is the same without.
 #[inline]
 pub fn find_core<A: Automaton>(

@@ -99,7 +99,7 @@ impl<'h> Input<'h> {
         self
     }
 
-    /// Returns the input with or without the request for the earliest end. Without unless set. This ports
+    /// Returns the input with or without the request for the earliest end. Default: without. This ports
     /// `Input::earliest`.
     ///
     /// With it a search returns the match that `MatchKind::Standard` picks, under every match kind.
