@@ -33,10 +33,8 @@ fn inputs_have_options(rt: HostRuntime) {
     assert_eq!(rt; input.haystack(), b"foobar".as_slice());
     assert_eq!(rt; (input.start(), input.end()), (3, 6));
     assert_eq!(rt; input.get_span(), Span { start: 3, end: 6 });
-    assert_eq!(rt;
-        (input.get_range(), input.get_anchored()),
-        (3..6, Anchored::Yes)
-    );
+    assert_eq!(rt; input.get_range(), 3..6);
+    assert_eq!(rt; input.get_anchored(), Anchored::Yes);
     assert!(rt; !input.get_earliest() && !input.is_done());
     //= end
 
