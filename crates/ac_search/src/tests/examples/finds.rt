@@ -79,16 +79,12 @@ fn finds_of_each_kind(rt: HostRuntime) -> Result<(), Fail> {
     let alloc = rt.alloc();
     //= MatchKind
     let patterns: &[&[u8]] = &[b"b", b"abc", b"abcd"];
-    let mut builder = AhoCorasick::builder();
+    let (mut builder, input) = (AhoCorasick::builder(), Input::new(b"abcd"));
     builder.match_kind(MatchKind::LeftmostFirst);
-    let found = builder
-        .build(alloc, patterns)?
-        .try_find(Input::new(b"abcd"))?;
+    let found = builder.build(alloc, patterns)?.try_find(input)?;
     assert_eq!(rt; found, Some(Match::must(1, 0..3)));
     builder.match_kind(MatchKind::LeftmostLongest);
-    let found = builder
-        .build(alloc, patterns)?
-        .try_find(Input::new(b"abcd"))?;
+    let found = builder.build(alloc, patterns)?.try_find(input)?;
     assert_eq!(rt; found, Some(Match::must(2, 0..4)));
     //= end
     Ok(())

@@ -23,8 +23,7 @@ fn states_are_cloned(rt: HostRuntime) -> Result<(), Fail> {
     let alloc = rt.alloc();
     //= OverlappingState
     let searcher = AhoCorasick::new(alloc, &[b"append", b"app"])?;
-    let input = Input::new(b"append");
-    let mut state = OverlappingState::start();
+    let (input, mut state) = (Input::new(b"append"), OverlappingState::start());
     assert_eq!(rt; state.get_match(), None);
     searcher.find_overlapping(input, &mut state);
     let before = state.clone();
