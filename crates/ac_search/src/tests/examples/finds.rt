@@ -119,11 +119,11 @@ fn walks_that_may_be_refused(rt: HostRuntime) -> Result<(), Fail> {
     let mut builder = AhoCorasick::builder();
     builder.start_kind(StartKind::Anchored);
     let searcher = builder.build(alloc, &[b"ab"])?;
-    let input = Input::new(b"ababxab");
+    let input = Input::new(b"abxab");
     let refused = searcher.try_find_iter(input).err();
     assert_eq!(rt; refused, Some(MatchError::InvalidInputUnanchored));
-    let matches = searcher.try_find_iter(input.anchored(Anchored::Yes))?;
-    assert_eq!(rt; matches.count(), 2); // 0..2 and 2..4
+    let mut matches = searcher.try_find_iter(input.anchored(Anchored::Yes))?;
+    assert_eq!(rt; matches.next(), Some(Match::must(0, 0..2)));
     //= end
     Ok(())
 }

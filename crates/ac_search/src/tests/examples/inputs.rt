@@ -111,10 +111,8 @@ fn numbers_and_kinds(rt: HostRuntime) {
     assert_eq!(rt; (id.as_usize(), id.as_u32(), id.as_u64()), (3, 3, 3));
     assert_eq!(rt; id.one_more(), 4);
     assert_eq!(rt; PatternID::new(3), Ok(id));
-    let refused = TooLarge {
-        attempted: PatternID::LIMIT,
-    };
-    assert_eq!(rt; PatternID::new(PatternID::LIMIT), Err(refused));
+    let attempted = PatternID::LIMIT;
+    assert_eq!(rt; PatternID::new(attempted), Err(TooLarge { attempted }));
     //= end
 
     //= is_leftmost
