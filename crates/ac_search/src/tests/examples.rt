@@ -1,5 +1,4 @@
 //! The examples of doc comments: each block of them stands here, line by line (`scripts/check_readme`).
-mod automata;
 mod builders;
 mod engines;
 mod finds;

@@ -27,29 +27,6 @@ fn engines(rt: HostRuntime) -> Result<(), Fail> {
 }
 
 #[test]
-fn engines_of_engines(rt: HostRuntime) -> Result<(), Fail> {
-    let alloc = rt.alloc();
-    //= contiguous_from
-    let nfa = noncontiguous::NFA::new(alloc, &[b"he", b"she"])?;
-    let builder = contiguous::Builder::new();
-    assert!(rt; builder.fits(&nfa));
-    let packed = builder.build_from_noncontiguous(alloc, &nfa)?;
-    let found = packed.try_find(Input::new(b"ushers"))?;
-    assert_eq!(rt; found, Some(Match::must(1, 1..4)));
-    //= end
-
-    //= dfa_from
-    let nfa = noncontiguous::NFA::new(alloc, &[b"he", b"she"])?;
-    let builder = dfa::Builder::new();
-    assert!(rt; builder.fits(&nfa));
-    let dfa = builder.build_from_noncontiguous(alloc, &nfa)?;
-    let found = dfa.try_find(Input::new(b"ushers"))?;
-    assert_eq!(rt; found, Some(Match::must(1, 1..4)));
-    //= end
-    Ok(())
-}
-
-#[test]
 fn noncontiguous_builders(rt: HostRuntime) -> Result<(), Fail> {
     let alloc = rt.alloc();
     //= noncontiguous_builder

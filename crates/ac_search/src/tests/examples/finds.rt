@@ -8,12 +8,6 @@ use std::test::Fail;
 #[test]
 fn searchers(rt: HostRuntime) -> Result<(), Fail> {
     let alloc = rt.alloc();
-    //= AhoCorasick
-    let searcher = AhoCorasick::new(alloc, &[b"he", b"she"])?;
-    let found = searcher.find(Input::new(b"ushers"));
-    assert_eq!(rt; found, Some(Match::must(1, 1..4)));
-    //= end
-
     //= new
     let patterns: &[&[u8]] = &[b"foo", b"bar", b"baz"];
     let searcher = AhoCorasick::new(alloc, patterns)?;
@@ -55,37 +49,12 @@ fn finds(rt: HostRuntime) -> Result<(), Fail> {
     assert!(rt; !searcher.is_match(Input::new(b"xxx qux xxx")));
     //= end
 
-    //= find
-    let patterns: &[&[u8]] = &[b"b", b"abc", b"abcd"];
-    let searcher = AhoCorasick::new(alloc, patterns)?;
-    let found = searcher.find(Input::new(b"abcd"));
-    assert_eq!(rt; found, Some(Match::must(0, 1..2)));
-    let found = searcher.find(Input::new(b"abcd").range(2..4));
-    assert_eq!(rt; found, None);
-    //= end
-
     //= try_find
     let searcher = AhoCorasick::new(alloc, &[b"bar"])?;
     let input = Input::new(b"foo bar");
     assert_eq!(rt; searcher.try_find(input), Ok(Some(Match::must(0, 4..7))));
     let refused = searcher.try_find(input.anchored(Anchored::Yes));
     assert_eq!(rt; refused, Err(MatchError::InvalidInputAnchored));
-    //= end
-    Ok(())
-}
-
-#[test]
-fn finds_of_each_kind(rt: HostRuntime) -> Result<(), Fail> {
-    let alloc = rt.alloc();
-    //= MatchKind
-    let patterns: &[&[u8]] = &[b"b", b"abc", b"abcd"];
-    let (mut builder, input) = (AhoCorasick::builder(), Input::new(b"abcd"));
-    builder.match_kind(MatchKind::LeftmostFirst);
-    let found = builder.build(alloc, patterns)?.try_find(input)?;
-    assert_eq!(rt; found, Some(Match::must(1, 0..3)));
-    builder.match_kind(MatchKind::LeftmostLongest);
-    let found = builder.build(alloc, patterns)?.try_find(input)?;
-    assert_eq!(rt; found, Some(Match::must(2, 0..4)));
     //= end
     Ok(())
 }
@@ -102,13 +71,6 @@ fn walks(rt: HostRuntime) -> Result<(), Fail> {
     assert_eq!(rt; ends.as_slice(), [5, 12].as_slice());
     //= end
 
-    //= FindIter
-    let searcher = AhoCorasick::new(alloc, &[b"append", b"appendage", b"app"])?;
-    let mut matches = searcher.find_iter(Input::new(b"append the app"));
-    assert_eq!(rt; matches.next(), Some(Match::must(2, 0..3)));
-    assert_eq!(rt; matches.next(), Some(Match::must(2, 11..14)));
-    assert_eq!(rt; matches.next(), None);
-    //= end
     Ok(())
 }
 

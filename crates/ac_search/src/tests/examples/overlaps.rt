@@ -19,44 +19,6 @@ fn states_move_on(rt: HostRuntime) -> Result<(), Fail> {
 }
 
 #[test]
-fn states_are_cloned(rt: HostRuntime) -> Result<(), Fail> {
-    let alloc = rt.alloc();
-    //= OverlappingState
-    let searcher = AhoCorasick::new(alloc, &[b"append", b"app"])?;
-    let (input, mut state) = (Input::new(b"append"), OverlappingState::start());
-    assert_eq!(rt; state.get_match(), None);
-    searcher.find_overlapping(input, &mut state);
-    let before = state.clone();
-    searcher.find_overlapping(input, &mut state);
-    assert_eq!(rt; before.get_match(), Some(Match::must(1, 0..3)));
-    assert_eq!(rt; state.get_match(), Some(Match::must(0, 0..6)));
-    //= end
-    Ok(())
-}
-
-#[test]
-fn listings(rt: HostRuntime) -> Result<(), Fail> {
-    let alloc = rt.alloc();
-    //= find_overlapping_iter
-    let searcher = AhoCorasick::new(alloc, &[b"append", b"appendage", b"app"])?;
-    let mut ends = Vec::new(alloc);
-    for m in searcher.find_overlapping_iter(Input::new(b"append the app")) {
-        ends.push(m.end())?; // pattern 2 at 0..3, pattern 0 at 0..6, pattern 2 at 11..14
-    }
-    assert_eq!(rt; ends.as_slice(), [3, 6, 14].as_slice());
-    //= end
-
-    //= FindOverlappingIter
-    let searcher = AhoCorasick::new(alloc, &[b"he", b"she"])?;
-    let mut matches = searcher.find_overlapping_iter(Input::new(b"ushers"));
-    assert_eq!(rt; matches.next(), Some(Match::must(1, 1..4)));
-    assert_eq!(rt; matches.next(), Some(Match::must(0, 2..4)));
-    assert_eq!(rt; matches.next(), None);
-    //= end
-    Ok(())
-}
-
-#[test]
 fn listings_that_may_be_refused(rt: HostRuntime) -> Result<(), Fail> {
     let alloc = rt.alloc();
     //= try_find_overlapping

@@ -1,18 +1,15 @@
 //! Replacement in memory.
-use crate::{AhoCorasick, MatchError, MatchKind, ReplaceError, StartKind};
+use crate::AhoCorasick;
 use std::test::Fail;
 
 #[test]
 fn replacements(rt: HostRuntime) -> Result<(), Fail> {
     let alloc = rt.alloc();
     //= replace_all
-    let patterns: &[&[u8]] = &[b"append", b"appendage", b"app"];
-    let mut builder = AhoCorasick::builder();
-    builder.match_kind(MatchKind::LeftmostFirst);
-    let searcher = builder.build(alloc, patterns)?;
+    let searcher = AhoCorasick::new(alloc, &[b"append", b"appendage", b"app"])?;
     let text = "append the app to the appendage";
     let replaced = searcher.replace_all(alloc, text, &["x", "y", "z"])?;
-    assert_eq!(rt; replaced.as_str(), "x the z to the xage");
+    assert_eq!(rt; replaced.as_str(), "zend the z to the zendage");
     //= end
 
     //= replace_all_bytes
@@ -20,26 +17,6 @@ fn replacements(rt: HostRuntime) -> Result<(), Fail> {
     let texts: &[&[u8]] = &[b"sloth", b"grey", b"slow"];
     let replaced = searcher.replace_all_bytes(alloc, b"The quick brown fox.", texts)?;
     assert_eq!(rt; replaced.as_slice(), b"The slow grey sloth.".as_slice());
-    //= end
-    Ok(())
-}
-
-#[test]
-fn replacements_that_may_be_refused(rt: HostRuntime) -> Result<(), Fail> {
-    let alloc = rt.alloc();
-    //= try_replace_all
-    let mut builder = AhoCorasick::builder();
-    builder.start_kind(StartKind::Anchored);
-    let searcher = builder.build(alloc, &[b"fox"])?;
-    let refused = searcher.try_replace_all(alloc, "a fox", &["sloth"]).err();
-    let error = ReplaceError::Match(MatchError::InvalidInputUnanchored);
-    assert_eq!(rt; refused, Some(error));
-    //= end
-
-    //= try_replace_all_bytes
-    let searcher = AhoCorasick::new(alloc, &[b"fox"])?;
-    let replaced = searcher.try_replace_all_bytes(alloc, b"a fox", &[b"sloth"])?;
-    assert_eq!(rt; replaced.as_slice(), b"a sloth".as_slice());
     //= end
     Ok(())
 }
@@ -68,7 +45,7 @@ fn replacements_by_closures(rt: HostRuntime) -> Result<(), Fail> {
 }
 
 #[test]
-fn replacements_by_closures_that_may_be_refused(rt: HostRuntime) -> Result<(), Fail> {
+fn replacements_by_closures_that_stop(rt: HostRuntime) -> Result<(), Fail> {
     let alloc = rt.alloc();
     //= try_replace_all_with
     let searcher = AhoCorasick::new(alloc, &[b"a"])?;
@@ -76,8 +53,7 @@ fn replacements_by_closures_that_may_be_refused(rt: HostRuntime) -> Result<(), F
     searcher.try_replace_all_with("aba", &mut destination, |m, _, destination| {
         m.start() > 0 && destination.push_str("x").is_ok()
     })?;
-    // The closure stopped it at the first match, so the rest stays as it is.
-    assert_eq!(rt; destination.as_str(), "ba");
+    assert_eq!(rt; destination.as_str(), "ba"); // it stopped at the first match
     //= end
 
     //= try_replace_all_with_bytes

@@ -1,5 +1,5 @@
 //! Searches of streams, and replacement in them.
-use crate::{AhoCorasick, Bytes, Match, MatchError, StreamError, Written, write_all};
+use crate::{AhoCorasick, Bytes, Match, Written, write_all};
 use std::alloc::Global;
 use std::test::Fail;
 
@@ -13,18 +13,6 @@ fn streams_are_searched(rt: HostRuntime) -> Result<(), Fail> {
         ends.push(found?.end())?; // pattern 2 at 0..3, pattern 2 at 11..14
     }
     assert_eq!(rt; ends.as_slice(), [3, 14].as_slice());
-    //= end
-    Ok(())
-}
-
-#[test]
-fn streams_that_may_be_refused(rt: HostRuntime) -> Result<(), Fail> {
-    let alloc = rt.alloc();
-    //= try_stream_find_iter
-    let searcher = AhoCorasick::new(alloc, &[b"app", b""])?;
-    let outcome = searcher.try_stream_find_iter(alloc, Bytes::new(b"append"));
-    let refused = MatchError::UnsupportedEmpty;
-    assert!(rt; matches!(outcome, Err(StreamError::Match(e)) if e == refused));
     //= end
     Ok(())
 }
@@ -57,20 +45,6 @@ fn stream_finders(rt: HostRuntime) -> Result<(), Fail> {
     let found = finder.next(&mut Bytes::new(b"p")).transpose()?;
     assert_eq!(rt; found, Some(Match::must(1, 11..14)));
     assert_eq!(rt; (finder.kept_len(), finder.buffer_len()), (0, 65_536));
-    //= end
-    Ok(())
-}
-
-#[test]
-fn streams_are_exchanged(rt: HostRuntime) -> Result<(), Fail> {
-    let alloc = rt.alloc();
-    //= try_stream_replace_all
-    let searcher = AhoCorasick::new(alloc, &[b"fox", b"brown", b"quick"])?;
-    let mut reader = Bytes::new(b"The quick brown fox.");
-    let mut writer = Written::new(alloc);
-    let texts: &[&[u8]] = &[b"sloth", b"grey", b"slow"];
-    searcher.try_stream_replace_all(alloc, &mut reader, &mut writer, texts)?;
-    assert_eq!(rt; writer.bytes(), b"The slow grey sloth.".as_slice());
     //= end
     Ok(())
 }
