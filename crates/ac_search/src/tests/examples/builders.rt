@@ -5,7 +5,6 @@ use std::test::Fail;
 #[test]
 fn starts_of_searches(rt: HostRuntime) -> Result<(), Fail> {
     let alloc = rt.alloc();
-    //= start_kind
     let mut builder = AhoCorasickBuilder::new();
     builder.start_kind(StartKind::Anchored);
     let searcher = builder.build(alloc, &[b"b", b"abc"])?;
@@ -14,14 +13,12 @@ fn starts_of_searches(rt: HostRuntime) -> Result<(), Fail> {
     assert_eq!(rt; refused, Err(MatchError::InvalidInputUnanchored));
     let found = searcher.try_find(input.anchored(Anchored::Yes))?;
     assert_eq!(rt; found, Some(Match::must(1, 0..3)));
-    //= end
     Ok(())
 }
 
 #[test]
 fn settings_of_engines(rt: HostRuntime) -> Result<(), Fail> {
     let alloc = rt.alloc();
-    //= kind
     let mut builder = AhoCorasickBuilder::new();
     builder.kind(Some(AhoCorasickKind::ContiguousNFA));
     builder.dense_depth(0).byte_classes(false).prefilter(false);
@@ -29,7 +26,6 @@ fn settings_of_engines(rt: HostRuntime) -> Result<(), Fail> {
     assert_eq!(rt; searcher.kind(), AhoCorasickKind::ContiguousNFA);
     let found = searcher.try_find(Input::new(b"xx bar"))?;
     assert_eq!(rt; found, Some(Match::must(1, 3..6))); // as with any engine
-    //= end
 
     Ok(())
 }

@@ -6,72 +6,59 @@ use std::test::Fail;
 #[test]
 fn engines(rt: HostRuntime) -> Result<(), Fail> {
     let alloc = rt.alloc();
-    //= noncontiguous_nfa
     let nfa = noncontiguous::NFA::new(alloc, &[b"he", b"she"])?;
     let found = nfa.try_find(Input::new(b"ushers"))?;
     assert_eq!(rt; found, Some(Match::must(1, 1..4)));
-    //= end
 
-    //= contiguous_nfa
     let nfa = contiguous::NFA::new(alloc, &[b"he", b"she"])?;
     let found = nfa.try_find(Input::new(b"ushers"))?;
     assert_eq!(rt; found, Some(Match::must(1, 1..4)));
-    //= end
 
-    //= dfa
     let dfa = dfa::DFA::new(alloc, &[b"he", b"she"])?;
     let found = dfa.try_find(Input::new(b"ushers"))?;
     assert_eq!(rt; found, Some(Match::must(1, 1..4)));
-    //= end
     Ok(())
 }
 
 #[test]
 fn noncontiguous_builders(rt: HostRuntime) -> Result<(), Fail> {
     let alloc = rt.alloc();
-    //= noncontiguous_builder
     let mut builder = noncontiguous::Builder::new();
     builder.match_kind(MatchKind::LeftmostFirst);
     builder.ascii_case_insensitive(true).prefilter(false);
     let nfa = builder.build(alloc, &[b"Sam", b"Samwise"])?;
     let found = nfa.try_find(Input::new(b"SAMWISE"))?;
     assert_eq!(rt; found, Some(Match::must(0, 0..3)));
-    //= end
     Ok(())
 }
 
 #[test]
 fn contiguous_builders(rt: HostRuntime) -> Result<(), Fail> {
     let alloc = rt.alloc();
-    //= contiguous_builder
     let mut builder = contiguous::Builder::new();
     builder.match_kind(MatchKind::LeftmostFirst);
     builder.dense_depth(3).byte_classes(false).prefilter(false);
     let nfa = builder.build(alloc, &[b"Sam", b"Samwise"])?;
     let found = nfa.try_find(Input::new(b"Samwise"))?;
     assert_eq!(rt; found, Some(Match::must(0, 0..3)));
-    //= end
     Ok(())
 }
 
 #[test]
 fn dfa_builders(rt: HostRuntime) -> Result<(), Fail> {
     let alloc = rt.alloc();
-    //= dfa_builder
     let mut builder = dfa::Builder::new();
     builder.match_kind(MatchKind::LeftmostFirst);
     builder.start_kind(StartKind::Both).byte_classes(false);
     let dfa = builder.build(alloc, &[b"Sam", b"Samwise"])?;
     let input = Input::new(b"Samwise").anchored(Anchored::Yes);
     assert_eq!(rt; dfa.try_find(input)?, Some(Match::must(0, 0..3)));
-    //= end
     Ok(())
 }
 
 #[test]
 fn states_are_stepped_through(rt: HostRuntime) -> Result<(), Fail> {
     let alloc = rt.alloc();
-    //= Automaton
     let nfa = noncontiguous::NFA::new(alloc, &[b"he", b"she"])?;
     let (mut looks, anchored) = (Looks::new(), Anchored::No);
     let start = nfa.start_state(anchored)?;
@@ -80,6 +67,5 @@ fn states_are_stepped_through(rt: HostRuntime) -> Result<(), Fail> {
     assert!(rt; nfa.is_start(start) && !nfa.is_dead(he));
     assert!(rt; nfa.is_match(he) && nfa.match_len(he) == 1);
     assert_eq!(rt; nfa.match_pattern(he, 0), PatternID::must(0));
-    //= end
     Ok(())
 }

@@ -8,26 +8,21 @@ use std::test::Fail;
 #[test]
 fn searchers(rt: HostRuntime) -> Result<(), Fail> {
     let alloc = rt.alloc();
-    //= new
     let patterns: &[&[u8]] = &[b"foo", b"bar", b"baz"];
     let searcher = AhoCorasick::new(alloc, patterns)?;
     let found = searcher.find(Input::new(b"xxx bar xxx"));
     assert_eq!(rt; found, Some(Match::must(1, 4..7)));
-    //= end
 
-    //= patterns_of
     let patterns = patterns_of(alloc, &["apple", "maple", "Snapple"])?;
     let searcher = AhoCorasick::new(alloc, &patterns)?;
     let found = searcher.find(Input::of_text("a maple"));
     assert_eq!(rt; found, Some(Match::must(1, 2..7)));
-    //= end
     Ok(())
 }
 
 #[test]
 fn settings_and_sizes(rt: HostRuntime) -> Result<(), Fail> {
     let alloc = rt.alloc();
-    //= getters
     let searcher = AhoCorasick::new(alloc, &[b"foo", b"bar", b"quux"])?;
     assert_eq!(rt; searcher.kind(), AhoCorasickKind::DFA);
     assert_eq!(rt; searcher.match_kind(), MatchKind::Standard);
@@ -36,40 +31,33 @@ fn settings_and_sizes(rt: HostRuntime) -> Result<(), Fail> {
     assert_eq!(rt; searcher.min_pattern_len(), 3);
     assert_eq!(rt; searcher.max_pattern_len(), 4);
     assert!(rt; searcher.memory_usage() > 0);
-    //= end
     Ok(())
 }
 
 #[test]
 fn finds(rt: HostRuntime) -> Result<(), Fail> {
     let alloc = rt.alloc();
-    //= is_match
     let searcher = AhoCorasick::new(alloc, &[b"foo", b"bar", b"quux"])?;
     assert!(rt; searcher.is_match(Input::new(b"xxx bar xxx")));
     assert!(rt; !searcher.is_match(Input::new(b"xxx qux xxx")));
-    //= end
 
-    //= try_find
     let searcher = AhoCorasick::new(alloc, &[b"bar"])?;
     let input = Input::new(b"foo bar");
     assert_eq!(rt; searcher.try_find(input), Ok(Some(Match::must(0, 4..7))));
     let refused = searcher.try_find(input.anchored(Anchored::Yes));
     assert_eq!(rt; refused, Err(MatchError::InvalidInputAnchored));
-    //= end
     Ok(())
 }
 
 #[test]
 fn walks(rt: HostRuntime) -> Result<(), Fail> {
     let alloc = rt.alloc();
-    //= find_iter
     let searcher = AhoCorasick::new(alloc, &[b"apple", b"maple"])?;
     let mut ends = Vec::new(alloc);
     for m in searcher.find_iter(Input::new(b"maple, apple")) {
         ends.push(m.end())?; // pattern 1 at 0..5, pattern 0 at 7..12
     }
     assert_eq!(rt; ends.as_slice(), [5, 12].as_slice());
-    //= end
 
     Ok(())
 }
@@ -77,7 +65,6 @@ fn walks(rt: HostRuntime) -> Result<(), Fail> {
 #[test]
 fn walks_that_may_be_refused(rt: HostRuntime) -> Result<(), Fail> {
     let alloc = rt.alloc();
-    //= try_find_iter
     let mut builder = AhoCorasick::builder();
     builder.start_kind(StartKind::Anchored);
     let searcher = builder.build(alloc, &[b"ab"])?;
@@ -86,6 +73,5 @@ fn walks_that_may_be_refused(rt: HostRuntime) -> Result<(), Fail> {
     assert_eq!(rt; refused, Some(MatchError::InvalidInputUnanchored));
     let mut matches = searcher.try_find_iter(input.anchored(Anchored::Yes))?;
     assert_eq!(rt; matches.next(), Some(Match::must(0, 0..2)));
-    //= end
     Ok(())
 }

@@ -1,12 +1,10 @@
 //! The example of the whole crate.
 ghost use Rattle.std.specs.Prelude.{◌≡◌, None};
+ghost use Rattle.ac_search.specs.Built.{find_refusal, find_result};
+ghost use Rattle.ac_search.specs.Input.{whole_input};
 
 use crate::{AhoCorasick, Input, Match};
 use std::test::Fail;
-
-//= lib
-ghost use Rattle.ac_search.specs.Built.{find_refusal, find_result};
-ghost use Rattle.ac_search.specs.Input.{whole_input};
 
 fn first(searcher: &AhoCorasick, haystack: &[u8]) -> Option<Match>
     requires { find_refusal searcher.now.built (whole_input haystack.now) ≡ None }
@@ -14,7 +12,6 @@ fn first(searcher: &AhoCorasick, haystack: &[u8]) -> Option<Match>
 {
     searcher.find(Input::new(haystack))
 }
-//= end
 
 #[test]
 fn the_first_match(rt: HostRuntime) -> Result<(), Fail> {

@@ -5,7 +5,6 @@ use std::test::Fail;
 
 #[test]
 fn matches_and_spans(rt: HostRuntime) {
-    //= Match
     let m = Match::must(1, 13..18);
     assert_eq!(rt; m.pattern(), PatternID::must(1));
     assert_eq!(rt; (m.start(), m.end(), m.len()), (13, 18, 5));
@@ -13,9 +12,7 @@ fn matches_and_spans(rt: HostRuntime) {
     assert!(rt; !m.is_empty());
     assert_eq!(rt; m.offset(10), Match::must(1, 23..28));
     assert_eq!(rt; m, Match::new(PatternID::must(1), m.span()));
-    //= end
 
-    //= Span
     let span = Span { start: 3, end: 6 };
     assert_eq!(rt; span, Span::from(3..6));
     assert_eq!(rt; (span.range(), span.len()), (3..6, 3));
@@ -23,12 +20,10 @@ fn matches_and_spans(rt: HostRuntime) {
     assert!(rt; span.contains(3) && span.contains(6) && !span.contains(7));
     let empty = Span { start: 3, end: 3 };
     assert!(rt; empty.is_empty() && !empty.contains(3));
-    //= end
 }
 
 #[test]
 fn inputs_have_options(rt: HostRuntime) {
-    //= Input
     let input = Input::new(b"foobar").range(3..6).anchored(Anchored::Yes);
     assert_eq!(rt; input.haystack(), b"foobar".as_slice());
     assert_eq!(rt; (input.start(), input.end()), (3, 6));
@@ -36,9 +31,7 @@ fn inputs_have_options(rt: HostRuntime) {
     assert_eq!(rt; input.get_range(), 3..6);
     assert_eq!(rt; input.get_anchored(), Anchored::Yes);
     assert!(rt; !input.get_earliest() && !input.is_done());
-    //= end
 
-    //= set_span
     let mut input = Input::new(b"foobar");
     input.set_span(Span { start: 1, end: 5 });
     input.set_start(3);
@@ -46,39 +39,31 @@ fn inputs_have_options(rt: HostRuntime) {
     assert_eq!(rt; input.get_range(), 3..6);
     input.set_range(6..5);
     assert!(rt; input.is_done());
-    //= end
 
-    //= set_anchored
     let mut input = Input::new(b"foobar");
     input.set_anchored(Anchored::Yes);
     input.set_earliest(true);
     assert!(rt; input.get_anchored().is_anchored() && input.get_earliest());
-    //= end
 
-    //= of_text
     let input = Input::of_text("\u{e9}b");
     assert_eq!(rt; input.haystack(), b"\xc3\xa9b".as_slice());
     assert_eq!(rt; input.get_range(), 0..3);
-    //= end
 }
 
 #[test]
 fn spans_of_inputs_are_searched(rt: HostRuntime) -> Result<(), Fail> {
     let alloc = rt.alloc();
-    //= range
     let searcher = AhoCorasick::new(alloc, &[b"foo", b"bar"])?;
     let input = Input::new(b"foobar").range(3..6);
     assert_eq!(rt; searcher.find(input), Some(Match::must(1, 3..6)));
     let input = Input::new(b"foobar").span(Span { start: 0, end: 3 });
     assert_eq!(rt; searcher.find(input), Some(Match::must(0, 0..3)));
-    //= end
     Ok(())
 }
 
 #[test]
 fn options_of_inputs_count(rt: HostRuntime) -> Result<(), Fail> {
     let alloc = rt.alloc();
-    //= anchored
     let mut builder = AhoCorasick::builder();
     builder.start_kind(StartKind::Both);
     let searcher = builder.build(alloc, &[b"bar"])?;
@@ -86,9 +71,7 @@ fn options_of_inputs_count(rt: HostRuntime) -> Result<(), Fail> {
     assert_eq!(rt; searcher.try_find(input)?, None);
     let found = searcher.try_find(input.range(4..7))?;
     assert_eq!(rt; found, Some(Match::must(0, 4..7)));
-    //= end
 
-    //= earliest
     let mut builder = AhoCorasick::builder();
     builder.match_kind(MatchKind::LeftmostLongest);
     let searcher = builder.build(alloc, &[b"b", b"abc", b"abcd"])?;
@@ -96,28 +79,21 @@ fn options_of_inputs_count(rt: HostRuntime) -> Result<(), Fail> {
     assert_eq!(rt; searcher.try_find(input)?, Some(Match::must(2, 0..4)));
     let earliest = searcher.try_find(input.earliest(true))?;
     assert_eq!(rt; earliest, Some(Match::must(0, 1..2)));
-    //= end
     Ok(())
 }
 
 #[test]
 fn numbers_and_kinds(rt: HostRuntime) {
-    //= PatternID
     let id = PatternID::must(3);
     assert_eq!(rt; (id.as_usize(), id.as_u32(), id.as_u64()), (3, 3, 3));
     assert_eq!(rt; id.one_more(), 4);
     assert_eq!(rt; PatternID::new(3), Ok(id));
     let attempted = PatternID::LIMIT;
     assert_eq!(rt; PatternID::new(attempted), Err(TooLarge { attempted }));
-    //= end
 
-    //= is_leftmost
     assert!(rt; MatchKind::LeftmostFirst.is_leftmost());
     assert!(rt; !MatchKind::Standard.is_leftmost());
-    //= end
 
-    //= plain_byte
     assert_eq!(rt; plain_byte(true, b'A'), b'a');
     assert_eq!(rt; plain_byte(false, b'A'), b'A');
-    //= end
 }

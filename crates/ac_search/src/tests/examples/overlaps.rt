@@ -5,7 +5,6 @@ use std::test::Fail;
 #[test]
 fn states_move_on(rt: HostRuntime) -> Result<(), Fail> {
     let alloc = rt.alloc();
-    //= find_overlapping
     let searcher = AhoCorasick::new(alloc, &[b"append", b"appendage", b"app"])?;
     let (input, mut state) = (Input::new(b"append"), OverlappingState::start());
     searcher.find_overlapping(input, &mut state);
@@ -14,14 +13,12 @@ fn states_move_on(rt: HostRuntime) -> Result<(), Fail> {
     assert_eq!(rt; state.get_match(), Some(Match::must(0, 0..6)));
     searcher.find_overlapping(input, &mut state);
     assert_eq!(rt; state.get_match(), None);
-    //= end
     Ok(())
 }
 
 #[test]
 fn listings_that_may_be_refused(rt: HostRuntime) -> Result<(), Fail> {
     let alloc = rt.alloc();
-    //= try_find_overlapping
     let mut builder = AhoCorasick::builder();
     builder.match_kind(MatchKind::LeftmostFirst);
     let searcher = builder.build(alloc, &[b"append", b"app"])?;
@@ -29,13 +26,10 @@ fn listings_that_may_be_refused(rt: HostRuntime) -> Result<(), Fail> {
     let outcome = searcher.try_find_overlapping(Input::new(b"append"), &mut state);
     let got = MatchKind::LeftmostFirst;
     assert_eq!(rt; outcome, Err(MatchError::UnsupportedOverlapping { got }));
-    //= end
 
-    //= try_find_overlapping_iter
     let searcher = AhoCorasick::new(alloc, &[b"append", b"app"])?;
     let mut matches = searcher.try_find_overlapping_iter(Input::new(b"append"))?;
     assert_eq!(rt; matches.next(), Some(Match::must(1, 0..3)));
     assert_eq!(rt; matches.next(), Some(Match::must(0, 0..6)));
-    //= end
     Ok(())
 }
