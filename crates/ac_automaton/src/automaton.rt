@@ -56,9 +56,17 @@ pub use walk::FindIter;
 /// passed have to stand for some node: `start_state` returns such a number, and `next_state` returns one if it was
 /// passed one, under the same anchoring.
 ///
+/// These calls read the bytes of "he":
+///
 /// ```
 /// let nfa = noncontiguous::NFA::new(alloc, &[b"he", b"she"])?;
-/// nfa.try_find(Input::new(b"ushers"))? // pattern 1, 1..4
+/// let (mut looks, anchored) = (Looks::new(), Anchored::No);
+/// let start = nfa.start_state(anchored)?;
+/// let h = nfa.next_state(anchored, start, b'h', &mut looks);
+/// let he = nfa.next_state(anchored, h, b'e', &mut looks);
+/// assert!(rt; nfa.is_start(start) && !nfa.is_dead(he));
+/// assert!(rt; nfa.is_match(he) && nfa.match_len(he) == 1);
+/// assert_eq!(rt; nfa.match_pattern(he, 0), PatternID::must(0));
 /// ```
 pub trait Automaton {
     /// The allocator of the automaton's memory.
@@ -77,21 +85,24 @@ pub trait Automaton {
     ///
     /// # Errors
     /// `InvalidInputAnchored` or `InvalidInputUnanchored` where the automaton has no start for this anchoring.
+    ///
+    /// See the example of `Automaton`.
     fn start_state(&self, anchored: Anchored) -> Result<StateID, MatchError>
         ensures { BeginsBy (seen self.now) anchored (λ sid. (seen self.now).stands anchored sid (Some [])) result };
 
-    /// Returns the state to which a byte leads from a state, and counts the looks at states that this takes.
+    /// Returns the state to which a byte leads from a state, and counts the looks at states that this takes. See the
+    /// example of `Automaton`.
     fn next_state(&self, anchored: Anchored, sid: StateID, byte: u8, looks: &mut Looks) -> StateID
         requires state { IsState ((seen self.now).stands anchored) sid }
         ensures steps { StepsTo (seen self.now) anchored sid byte result }
         ensures looks { CountsLooks (seen self.now) anchored sid byte looks.old looks.new };
 
-    /// Returns whether the state is dead: nothing is found from it on.
+    /// Returns whether the state is dead: nothing is found from it on. See the example of `Automaton`.
     fn is_dead(&self, sid: StateID) -> bool
         requires state { IsAnyState (seen self.now) sid }
         ensures { Tells (seen self.now) sid result (λ u. u ≡ None) };
 
-    /// Returns whether the state has matches.
+    /// Returns whether the state has matches. See the example of `Automaton`.
     fn is_match(&self, sid: StateID) -> bool
         requires state { IsAnyState (seen self.now) sid }
         ensures { IsTrue result ↔ ((seen self.now).listed sid ≢ []) };
@@ -106,7 +117,7 @@ pub trait Automaton {
         self.is_match(sid) || self.is_dead(sid)
     }
 
-    /// Returns whether the state is one in which a search starts.
+    /// Returns whether the state is one in which a search starts. See the example of `Automaton`.
     fn is_start(&self, sid: StateID) -> bool
         requires state { IsAnyState (seen self.now) sid }
         ensures { Tells (seen self.now) sid result (λ u. u ≡ Some []) };
@@ -122,13 +133,14 @@ pub trait Automaton {
         self.is_match_or_dead(sid) || self.is_start(sid)
     }
 
-    /// Returns how many matches a state has. It has to have some.
+    /// Returns how many matches a state has. It has to have some. See the example of `Automaton`.
     fn match_len(&self, sid: StateID) -> usize
         requires state { IsAnyState (seen self.now) sid }
         requires matches { (seen self.now).listed sid ≢ [] }
         ensures { result ≡ length ((seen self.now).listed sid) };
 
     /// Returns the pattern of one of the matches of a state. The index has to be less than the number of its matches.
+    /// See the example of `Automaton`.
     fn match_pattern(&self, sid: StateID, index: usize) -> PatternID
         requires state { IsAnyState (seen self.now) sid }
         requires within { index < length ((seen self.now).listed sid) }
@@ -217,6 +229,12 @@ pub trait Automaton {
     ///
     /// # Errors
     /// `InvalidInputAnchored` or `InvalidInputUnanchored` where the automaton has no start for the input's anchoring.
+    ///
+    /// ```
+    /// let nfa = noncontiguous::NFA::new(alloc, &[b"he", b"she"])?;
+    /// let found = nfa.try_find(Input::new(b"ushers"))?;
+    /// assert_eq!(rt; found, Some(Match::must(1, 1..4)));
+    /// ```
     #[inline]
     final fn try_find(&self, input: Input<'_>) -> Result<Option<Match>, MatchError>
     where
@@ -234,6 +252,8 @@ pub trait Automaton {
     ///
     /// # Errors
     /// As `try_find`.
+    ///
+    /// See the example of `AhoCorasick::try_find_iter`, which is called alike.
     #[inline]
     final fn try_find_iter<'a, 'h>(
         &'a self,
@@ -258,6 +278,8 @@ pub trait Automaton {
     /// # Errors
     /// `InvalidInputAnchored` or `InvalidInputUnanchored` where the automaton has no start for the input's anchoring,
     /// else `UnsupportedOverlapping` where its match kind isn't `MatchKind::Standard`. The state is then as it was.
+    ///
+    /// See the example of `AhoCorasick::try_find_overlapping`, which is called alike.
     #[inline]
     final fn try_find_overlapping(
         &self,
@@ -278,6 +300,8 @@ pub trait Automaton {
     ///
     /// # Errors
     /// As `try_find_overlapping`, else `InvalidInputAnchored` for an anchored input.
+    ///
+    /// See the example of `AhoCorasick::try_find_overlapping_iter`, which is called alike.
     #[inline]
     final fn try_find_overlapping_iter<'a, 'h>(
         &'a self,
@@ -300,6 +324,8 @@ pub trait Automaton {
     /// # Errors
     /// `ReplaceError::Match` with `InvalidInputUnanchored` where the automaton has no unanchored start, else
     /// `ReplaceError::Memory` where a request for memory is refused.
+    ///
+    /// See the example of `AhoCorasick::try_replace_all`, which is called alike.
     final fn try_replace_all<Z: Allocator>(
         &self,
         alloc: Z,
@@ -321,6 +347,8 @@ pub trait Automaton {
     ///
     /// # Errors
     /// As `try_replace_all`.
+    ///
+    /// See the example of `AhoCorasick::try_replace_all_bytes`, which is called alike.
     final fn try_replace_all_bytes<Z: Allocator>(
         &self,
         alloc: Z,
@@ -346,6 +374,8 @@ pub trait Automaton {
     /// # Errors
     /// As `try_replace_all`. Where the search is refused the destination is as it was; where memory is refused it is as
     /// the steps before left it.
+    ///
+    /// See the example of `AhoCorasick::try_replace_all_with`, which is called alike.
     final fn try_replace_all_with<F>(
         &self,
         haystack: &str,
@@ -367,6 +397,8 @@ pub trait Automaton {
     ///
     /// # Errors
     /// As `try_replace_all_with`.
+    ///
+    /// See the example of `AhoCorasick::try_replace_all_with_bytes`, which is called alike.
     final fn try_replace_all_with_bytes<F>(
         &self,
         haystack: &[u8],
@@ -390,6 +422,8 @@ pub trait Automaton {
     /// `StreamError::Match` with `InvalidInputUnanchored` where the automaton has no unanchored start, else with
     /// `UnsupportedEmpty` where some pattern is empty; else `StreamError::Memory` where the memory for the buffer is
     /// refused. Nothing was read then.
+    ///
+    /// See the example of `AhoCorasick::try_stream_find_iter`, which is called alike.
     final fn try_stream_find_iter<'a, R: Source + Drop, Z: Allocator>(
         &'a self,
         alloc: Z,
@@ -414,6 +448,8 @@ pub trait Automaton {
     /// `TooLong` where more bytes came than a `usize` counts: what was written before that read stays written.
     /// `WriteZero` where a write took no byte. Where a write failed or took nothing, a beginning of the replaced text
     /// of what was read was written.
+    ///
+    /// See the example of `AhoCorasick::try_stream_replace_all`, which is called alike.
     final fn try_stream_replace_all<R: Source, W: Sink, Z: Allocator>(
         &self,
         alloc: Z,
@@ -442,6 +478,8 @@ pub trait Automaton {
     /// # Errors
     /// As `try_stream_replace_all`; and `Io` where the closure failed: what it wrote stays written, and nothing
     /// follows.
+    ///
+    /// See the example of `AhoCorasick::try_stream_replace_all_with`, which is called alike.
     final fn try_stream_replace_all_with<R: Source, W: Sink, Z: Allocator, F>(
         &self,
         alloc: Z,

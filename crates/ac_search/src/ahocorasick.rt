@@ -35,8 +35,24 @@ pub use stream_iter::StreamFindIter;
 /// (`laws::engines_agree`). Contracts see what it was built from, and which engine serves it. This ports `AhoCorasick`.
 ///
 /// ```
-/// let searcher = AhoCorasick::new(alloc, &[b"he", b"she"])?;
-/// let found = searcher.find(Input::new(b"ushers")); // pattern 1, 1..4
+/// let patterns: &[&[u8]] = &[b"apple", b"maple", b"Snapple"];
+/// let searcher = AhoCorasick::new(alloc, patterns)?;
+/// let text = "Nobody likes maple in their apple flavored Snapple.";
+/// let found = searcher.find(Input::of_text(text));
+/// assert_eq!(rt; found, Some(Match::must(1, 13..18)));
+/// ```
+///
+/// What it was built from, and which engine serves it:
+///
+/// ```
+/// let searcher = AhoCorasick::new(alloc, &[b"foo", b"bar", b"quux"])?;
+/// assert_eq!(rt; searcher.kind(), AhoCorasickKind::DFA);
+/// assert_eq!(rt; searcher.match_kind(), MatchKind::Standard);
+/// assert_eq!(rt; searcher.start_kind(), StartKind::Unanchored);
+/// assert_eq!(rt; searcher.patterns_len(), 3);
+/// assert_eq!(rt; searcher.min_pattern_len(), 3);
+/// assert_eq!(rt; searcher.max_pattern_len(), 4);
+/// assert!(rt; searcher.memory_usage() > 0);
 /// ```
 #[derive(Drop)]
 pub struct AhoCorasick<A: Allocator = Global> {
@@ -89,8 +105,10 @@ impl<A: Allocator + Clone> AhoCorasick<A> {
     /// As `AhoCorasickBuilder::build`.
     ///
     /// ```
-    /// let searcher = AhoCorasick::new(alloc, &[b"foo", b"bar", b"baz"])?;
-    /// searcher.find(Input::new(b"xxx bar xxx")) // pattern 1, 4..7
+    /// let patterns: &[&[u8]] = &[b"foo", b"bar", b"baz"];
+    /// let searcher = AhoCorasick::new(alloc, patterns)?;
+    /// let found = searcher.find(Input::new(b"xxx bar xxx"));
+    /// assert_eq!(rt; found, Some(Match::must(1, 4..7)));
     /// ```
     pub fn new(alloc: A, patterns: &[&[u8]]) -> Result<AhoCorasick<A>, BuildError>
         ensures { BuildsSearcher usual_settings (bytes_of patterns.now) result }
@@ -104,10 +122,14 @@ impl AhoCorasick {
     /// `AhoCorasick::builder`.
     ///
     /// ```
+    /// let patterns: &[&[u8]] = &[b"Sam", b"Samwise"];
     /// let mut builder = AhoCorasick::builder();
+    /// let standard = builder.build(alloc, patterns)?;
     /// builder.match_kind(MatchKind::LeftmostLongest);
-    /// let searcher = builder.build(alloc, &[b"Sam", b"Samwise"])?;
-    /// searcher.try_find(Input::new(b"Samwise"))? // pattern 1, 0..7
+    /// let longest = builder.build(alloc, patterns)?;
+    /// let input = Input::new(b"Samwise");
+    /// assert_eq!(rt; standard.try_find(input)?, Some(Match::must(0, 0..3)));
+    /// assert_eq!(rt; longest.try_find(input)?, Some(Match::must(1, 0..7)));
     /// ```
     pub fn builder() -> AhoCorasickBuilder
         ensures { result ≡ usual_settings }
@@ -126,12 +148,7 @@ impl<A: Allocator> AhoCorasick<A> {
     }
 
     /// Returns which engine serves the searcher: the one that was named to the builder, or the one that was chosen.
-    /// This ports `AhoCorasick::kind`.
-    ///
-    /// ```
-    /// let searcher = AhoCorasick::new(alloc, &[b"foo", b"bar"])?;
-    /// searcher.kind() // AhoCorasickKind::DFA
-    /// ```
+    /// This ports `AhoCorasick::kind`. See the example of `AhoCorasick`.
     pub fn kind(&self) -> AhoCorasickKind
         ensures { result ≡ self.now.kind }
     {
@@ -139,7 +156,7 @@ impl<A: Allocator> AhoCorasick<A> {
     }
 
     /// Returns whether the searcher supports unanchored searches, anchored ones or both, as its builder was set. This
-    /// ports `AhoCorasick::start_kind`.
+    /// ports `AhoCorasick::start_kind`. See the example of `AhoCorasick`.
     pub fn start_kind(&self) -> StartKind
         ensures { result ≡ self.now.built.start_kind }
     {
@@ -147,7 +164,7 @@ impl<A: Allocator> AhoCorasick<A> {
     }
 
     /// Returns the match kind, which decides which of the occurrences in a span a search returns. This ports
-    /// `AhoCorasick::match_kind`.
+    /// `AhoCorasick::match_kind`. See the example of `AhoCorasick`.
     pub fn match_kind(&self) -> MatchKind
         ensures { result ≡ self.now.built.kind }
     {
@@ -157,12 +174,7 @@ impl<A: Allocator> AhoCorasick<A> {
     /// Returns the length of the shortest pattern in bytes, or `usize::MAX` if there are no patterns. This ports
     /// `AhoCorasick::min_pattern_len`.
     ///
-    /// It is 0 exactly if some pattern is empty (`laws::shortest_is_empty`).
-    ///
-    /// ```
-    /// // a searcher over "foo", "bar" and "quux"
-    /// searcher.min_pattern_len() // 3
-    /// ```
+    /// It is 0 exactly if some pattern is empty (`laws::shortest_is_empty`). See the example of `AhoCorasick`.
     pub fn min_pattern_len(&self) -> usize
         ensures { result ≡ shortest_len self.now.built.patterns }
     {
@@ -170,12 +182,7 @@ impl<A: Allocator> AhoCorasick<A> {
     }
 
     /// Returns the length of the longest pattern in bytes, or 0 if there are no patterns. This ports
-    /// `AhoCorasick::max_pattern_len`.
-    ///
-    /// ```
-    /// // a searcher over "foo", "bar" and "quux"
-    /// searcher.max_pattern_len() // 4
-    /// ```
+    /// `AhoCorasick::max_pattern_len`. See the example of `AhoCorasick`.
     pub fn max_pattern_len(&self) -> usize
         ensures { result ≡ longest_len self.now.built.patterns }
     {
@@ -185,6 +192,7 @@ impl<A: Allocator> AhoCorasick<A> {
     /// Returns how many patterns the searcher was built from. This ports `AhoCorasick::patterns_len`.
     ///
     /// Patterns that no search can return count too, such as "Samwise" after "Sam" under `MatchKind::LeftmostFirst`.
+    /// See the example of `AhoCorasick`.
     pub fn patterns_len(&self) -> usize
         ensures { result ≡ length self.now.built.patterns }
     {
@@ -192,7 +200,7 @@ impl<A: Allocator> AhoCorasick<A> {
     }
 
     /// Returns about how many bytes of memory the searcher takes. Nothing is promised about the number. This ports
-    /// `AhoCorasick::memory_usage`.
+    /// `AhoCorasick::memory_usage`. See the example of `AhoCorasick`.
     pub fn memory_usage(&self) -> usize {
         self.engine.memory_usage()
     }

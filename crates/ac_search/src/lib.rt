@@ -1,14 +1,17 @@
 //! Searches for all matches of many patterns at once.
 //!
 //! `AhoCorasick` is the searcher. Everything that contracts here cite has a name in this crate, so a user lists no
-//! other crate. Definitions are in `specs/`, and types with their cases in `specs.declared`:
+//! other crate. Definitions are in `specs/`, and types with their cases in `specs.declared`, as
+//! `Rattle.ac_search.specs.declared.MatchKind.TheVariants`. A function that is handed a searcher cites them:
 //!
 //! ```
-//! ghost use Rattle.ac_search.specs.InputView.{whole_input};
-//! ghost use Rattle.ac_search.specs.Built.{find_refusal, find_result, walk_result};
-//! ghost use Rattle.ac_search.specs.Searchers.{IsBuilt, usual_settings};
-//! ghost use Rattle.ac_search.specs.declared.MatchKind.TheVariants.{LeftmostFirst};
+//! ghost use Rattle.ac_search.specs.Built.{find_refusal, find_result};
+//! ghost use Rattle.ac_search.specs.Input.{whole_input};
+//! ```
 //!
+//! Its clauses say that the searcher supports the search, and what is found:
+//!
+//! ```
 //! fn first(searcher: &AhoCorasick, haystack: &[u8]) -> Option<Match>
 //!     requires { find_refusal searcher.now.built (whole_input haystack.now) ≡ None }
 //!     ensures { result ≡ find_result searcher.now.built (whole_input haystack.now) }

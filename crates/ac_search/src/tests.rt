@@ -19,6 +19,7 @@ mod callers;
 mod choice;
 mod devices;
 mod engines;
+mod examples;
 mod listings;
 mod readme;
 mod refusals;

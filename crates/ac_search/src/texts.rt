@@ -10,13 +10,15 @@ use std::alloc::{AllocError, Allocator};
 /// Texts that come from outside may be empty, and a match of an empty pattern may stand inside a character. Where
 /// `min_pattern_len` of the searcher isn't 0, call `laws::nonempty_texts_are_texts` before a text is sliced at its matches.
 ///
+/// # Errors
+/// `AllocError` where the memory for the list is refused.
+///
 /// ```
 /// let patterns = patterns_of(alloc, &["apple", "maple", "Snapple"])?;
 /// let searcher = AhoCorasick::new(alloc, &patterns)?;
+/// let found = searcher.find(Input::of_text("a maple"));
+/// assert_eq!(rt; found, Some(Match::must(1, 2..7)));
 /// ```
-///
-/// # Errors
-/// `AllocError` where the memory for the list is refused.
 pub fn patterns_of<'t, A: Allocator>(
     alloc: A,
     texts: &[&'t str],

@@ -38,6 +38,15 @@ pub struct SmallIndex<K = Plain> {
 }
 
 /// The number of a pattern: its index in the list that a searcher was built from. This ports `PatternID`.
+///
+/// ```
+/// let id = PatternID::must(3);
+/// assert_eq!(rt; (id.as_usize(), id.as_u32(), id.as_u64()), (3, 3, 3));
+/// assert_eq!(rt; id.one_more(), 4);
+/// assert_eq!(rt; PatternID::new(3), Ok(id));
+/// let attempted = PatternID::LIMIT;
+/// assert_eq!(rt; PatternID::new(attempted), Err(TooLarge { attempted }));
+/// ```
 pub type PatternID = SmallIndex<OfPattern>;
 
 /// The number of a state of an automaton. Each engine numbers its states as it likes. This ports `StateID`.
@@ -108,10 +117,7 @@ impl<K> SmallIndex<K> {
     /// # Errors
     /// `TooLarge` exactly where the number is greater than `MAX`.
     ///
-    /// ```
-    /// PatternID::new(3)? // PatternID(3)
-    /// PatternID::new(2_147_483_647) // `TooLarge`
-    /// ```
+    /// See the example of `PatternID`.
     pub fn new(number: usize) -> Result<SmallIndex<K>, TooLarge>
         ensures ok { IfOk result (λ index. (index ≡ number) × (number ≤ GREATEST)) }
         ensures err { IfErr result (λ e. (e.attempted ≡ number) × (GREATEST < number)) }

@@ -17,6 +17,17 @@ use std::ops::Range;
 ///
 /// In the haystack "abcd" a search for "b", "abc" and "abcd", listed in this order, returns "b" under `Standard`, "abc"
 /// under `LeftmostFirst`, and "abcd" under `LeftmostLongest`.
+///
+/// ```
+/// let patterns: &[&[u8]] = &[b"Sam", b"Samwise"];
+/// let mut builder = AhoCorasick::builder();
+/// let standard = builder.build(alloc, patterns)?;
+/// builder.match_kind(MatchKind::LeftmostLongest);
+/// let longest = builder.build(alloc, patterns)?;
+/// let input = Input::new(b"Samwise");
+/// assert_eq!(rt; standard.try_find(input)?, Some(Match::must(0, 0..3)));
+/// assert_eq!(rt; longest.try_find(input)?, Some(Match::must(1, 0..7)));
+/// ```
 #[derive(Clone, Copy, PartialEq, Eq, Default, Debug)]
 pub enum MatchKind {
     /// The occurrence that ends first; of those that end there the one that starts first, then the least pattern
@@ -31,6 +42,11 @@ pub enum MatchKind {
 
 impl MatchKind {
     /// Returns whether the kind is `LeftmostFirst` or `LeftmostLongest`, which prefer what starts first.
+    ///
+    /// ```
+    /// assert!(rt; MatchKind::LeftmostFirst.is_leftmost());
+    /// assert!(rt; !MatchKind::Standard.is_leftmost());
+    /// ```
     pub fn is_leftmost(&self) -> bool
         ensures { result ≡ is_leftmost self.now }
     {
@@ -41,7 +57,7 @@ impl MatchKind {
     }
 }
 
-/// Which searches a searcher supports. This ports `StartKind`.
+/// Which searches a searcher supports. This ports `StartKind`. See the example of `AhoCorasickBuilder::start_kind`.
 #[derive(Clone, Copy, PartialEq, Eq, Default, Debug)]
 pub enum StartKind {
     /// Unanchored and anchored searches.
@@ -53,7 +69,8 @@ pub enum StartKind {
     Anchored,
 }
 
-/// Whether a match has to start where the span of the search starts. This ports `Anchored`.
+/// Whether a match has to start where the span of the search starts. This ports `Anchored`. See the example of
+/// `Input::anchored`.
 #[derive(Clone, Copy, PartialEq, Eq, Debug)]
 pub enum Anchored {
     /// A match may start anywhere in the span.
@@ -63,6 +80,16 @@ pub enum Anchored {
 }
 
 /// A range of bytes in a haystack: from the offset `start` up to, but not including, `end`. This ports `Span`.
+///
+/// ```
+/// let span = Span { start: 3, end: 6 };
+/// assert_eq!(rt; span, Span::from(3..6));
+/// assert_eq!(rt; (span.range(), span.len()), (3..6, 3));
+/// assert_eq!(rt; span.offset(10), Span::from(13..16));
+/// assert!(rt; span.contains(3) && span.contains(6) && !span.contains(7));
+/// let empty = Span { start: 3, end: 3 };
+/// assert!(rt; empty.is_empty() && !empty.contains(3));
+/// ```
 #[derive(Clone, Copy, PartialEq, Eq, Hash)]
 pub struct Span {
     /// The offset of the first byte, counted from 0.
@@ -94,12 +121,8 @@ impl Span {
         self.end.saturating_sub(self.start)
     }
 
-    /// Returns whether an offset lies in the span or is its end. No offset lies in a span without bytes.
-    ///
-    /// ```
-    /// Span { start: 3, end: 6 }.contains(6) // true
-    /// Span { start: 3, end: 3 }.contains(3) // false
-    /// ```
+    /// Returns whether an offset lies in the span or is its end. No offset lies in a span without bytes. See the
+    /// example of `Span`.
     pub fn contains(&self, offset: usize) -> bool
         ensures { IsTrue result ↔ HasOffset self.now offset }
     {
@@ -143,9 +166,12 @@ impl From<Range<usize>> for Span {
 ///
 /// ```
 /// let m = Match::must(1, 13..18);
-/// m.pattern().as_usize() // 1
-/// m.start() // 13
-/// m.len() // 5
+/// assert_eq!(rt; m.pattern(), PatternID::must(1));
+/// assert_eq!(rt; (m.start(), m.end(), m.len()), (13, 18, 5));
+/// assert_eq!(rt; (m.span(), m.range()), (Span::from(13..18), 13..18));
+/// assert!(rt; !m.is_empty());
+/// assert_eq!(rt; m.offset(10), Match::must(1, 23..28));
+/// assert_eq!(rt; m, Match::new(PatternID::must(1), m.span()));
 /// ```
 #[derive(Clone, Copy, PartialEq, Eq, Hash, Debug)]
 pub struct Match {

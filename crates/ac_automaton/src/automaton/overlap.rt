@@ -20,10 +20,14 @@ use ac_util::search::{Anchored, Input, Match, MatchKind};
 /// on.
 ///
 /// ```
-/// // a searcher over "append", "appendage" and "app", with `MatchKind::Standard`
-/// let mut state = OverlappingState::start();
-/// searcher.find_overlapping(Input::new(b"append"), &mut state);
-/// state.get_match() // pattern 2, 0..3
+/// let searcher = AhoCorasick::new(alloc, &[b"append", b"appendage", b"app"])?;
+/// let (input, mut state) = (Input::new(b"append"), OverlappingState::start());
+/// searcher.find_overlapping(input, &mut state);
+/// assert_eq!(rt; state.get_match(), Some(Match::must(2, 0..3)));
+/// searcher.find_overlapping(input, &mut state);
+/// assert_eq!(rt; state.get_match(), Some(Match::must(0, 0..6)));
+/// searcher.find_overlapping(input, &mut state);
+/// assert_eq!(rt; state.get_match(), None);
 /// ```
 #[derive(Debug, Drop)]
 pub struct OverlappingState {

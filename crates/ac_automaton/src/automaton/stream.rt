@@ -31,6 +31,8 @@ use std::snapshot::Snapshot;
 /// What was read is in one buffer, which is made at first and never grows: it is read into as far as it has room, and
 /// the bytes that a match to come may need are moved to its front only when it is full. Contracts see all bytes that
 /// were read, and how many of their matches were returned.
+///
+/// See the example of `StreamFinder` of `ac_search`.
 #[derive(Drop)]
 pub struct StreamFinder<'a, A: Automaton, Z: Allocator> {
     automaton: &'a A,

@@ -30,9 +30,11 @@ use std::marker::Model;
 ///
 /// ```
 /// let mut builder = dfa::Builder::new();
-/// builder.match_kind(MatchKind::LeftmostFirst).start_kind(StartKind::Both);
+/// builder.match_kind(MatchKind::LeftmostFirst);
+/// builder.start_kind(StartKind::Both).byte_classes(false);
 /// let dfa = builder.build(alloc, &[b"Sam", b"Samwise"])?;
-/// dfa.try_find(Input::new(b"Samwise"))? // pattern 0, 0..3
+/// let input = Input::new(b"Samwise").anchored(Anchored::Yes);
+/// assert_eq!(rt; dfa.try_find(input)?, Some(Match::must(0, 0..3)));
 /// ```
 #[derive(Debug, Drop)]
 pub struct Builder {
@@ -237,8 +239,10 @@ fn len_for<A: Allocator>(
 /// `StateIdOverflow` exactly where that index is above the greatest number of a state.
 ///
 /// ```
-/// table_len(10, 5)? // 320
-/// table_len(100_000_000, 8) // `BuildError::StateIdOverflow`: the last row would begin at 25,599,999,744
+/// assert_eq!(rt; table_len(10, 5), Ok(320));
+/// let (max, requested) = (2_147_483_646, 25_599_999_744); // where the last row would begin
+/// let refused = BuildError::StateIdOverflow { max, requested };
+/// assert_eq!(rt; table_len(100_000_000, 8), Err(refused));
 /// ```
 pub fn table_len(rows: u64, stride2: u32) -> Result<u64, BuildError>
     requires some { 1 ≤ rows }

@@ -28,12 +28,14 @@ const USUAL_DENSE_DEPTH: usize = 2;
 /// again, also after an error.
 ///
 /// ```
-/// let mut builder = AhoCorasickBuilder::new();
+/// let patterns: &[&[u8]] = &[b"bar"];
+/// let mut builder = AhoCorasick::builder();
 /// builder
-///     .match_kind(MatchKind::LeftmostFirst)
-///     .ascii_case_insensitive(true);
-/// let searcher = builder.build(alloc, &[b"Sam", b"Samwise"])?;
-/// searcher.try_find(Input::new(b"SAMWISE"))? // pattern 0, 0..3
+///     .ascii_case_insensitive(true)
+///     .start_kind(StartKind::Both);
+/// let searcher = builder.build(alloc, patterns)?;
+/// let input = Input::new(b"foo BAR");
+/// assert_eq!(rt; searcher.try_find(input)?, Some(Match::must(0, 4..7)));
 /// ```
 #[derive(Debug, Drop)]
 pub struct AhoCorasickBuilder {
@@ -78,7 +80,7 @@ impl AhoCorasickBuilder {
     /// Returns a builder with the usual settings: `MatchKind::Standard`, unanchored searches only, the case of letters
     /// counts, the engine is chosen, states of a contiguous NFA are dense below depth 2, bytes that need not be
     /// distinguished share a class, and there is a prefilter where the patterns have one. This ports
-    /// `AhoCorasickBuilder::new`.
+    /// `AhoCorasickBuilder::new`. See the example of `AhoCorasickBuilder`.
     pub fn new() -> AhoCorasickBuilder
         ensures { result ≡ usual_settings }
     {
@@ -107,10 +109,14 @@ impl AhoCorasickBuilder {
     /// `AhoCorasickBuilder::match_kind`.
     ///
     /// ```
-    /// let mut builder = AhoCorasickBuilder::new();
+    /// let patterns: &[&[u8]] = &[b"Sam", b"Samwise"];
+    /// let mut builder = AhoCorasick::builder();
+    /// let standard = builder.build(alloc, patterns)?;
     /// builder.match_kind(MatchKind::LeftmostLongest);
-    /// let searcher = builder.build(alloc, &[b"b", b"abc", b"abcd"])?;
-    /// searcher.try_find(Input::new(b"abcd"))? // pattern 2, 0..4
+    /// let longest = builder.build(alloc, patterns)?;
+    /// let input = Input::new(b"Samwise");
+    /// assert_eq!(rt; standard.try_find(input)?, Some(Match::must(0, 0..3)));
+    /// assert_eq!(rt; longest.try_find(input)?, Some(Match::must(1, 0..7)));
     /// ```
     pub fn match_kind(&mut self, kind: MatchKind) -> &mut AhoCorasickBuilder
         ensures value { result.now ≡ record self.old { engine = record self.old.engine { kind = kind } } }
@@ -131,8 +137,10 @@ impl AhoCorasickBuilder {
     /// builder.start_kind(StartKind::Anchored);
     /// let searcher = builder.build(alloc, &[b"b", b"abc"])?;
     /// let input = Input::new(b"abcd");
-    /// searcher.try_find(input) // `MatchError::InvalidInputUnanchored`
-    /// searcher.try_find(input.anchored(Anchored::Yes))? // pattern 1, 0..3
+    /// let refused = searcher.try_find(input);
+    /// assert_eq!(rt; refused, Err(MatchError::InvalidInputUnanchored));
+    /// let found = searcher.try_find(input.anchored(Anchored::Yes))?;
+    /// assert_eq!(rt; found, Some(Match::must(1, 0..3)));
     /// ```
     pub fn start_kind(&mut self, kind: StartKind) -> &mut AhoCorasickBuilder
         ensures value { result.now ≡ record self.old { start_kind = kind } }
@@ -147,12 +155,14 @@ impl AhoCorasickBuilder {
     /// Letters beyond ASCII always differ by case. This ports `AhoCorasickBuilder::ascii_case_insensitive`.
     ///
     /// ```
-    /// let mut builder = AhoCorasickBuilder::new();
-    /// builder.ascii_case_insensitive(true);
-    /// let searcher = builder.build(alloc, &[b"Straw", b"BERRY"])?;
-    /// for found in searcher.try_find_iter(Input::new(b"strawberry"))? {
-    ///     // pattern 0, 0..5; pattern 1, 5..10
-    /// }
+    /// let patterns: &[&[u8]] = &[b"bar"];
+    /// let mut builder = AhoCorasick::builder();
+    /// builder
+    ///     .ascii_case_insensitive(true)
+    ///     .start_kind(StartKind::Both);
+    /// let searcher = builder.build(alloc, patterns)?;
+    /// let input = Input::new(b"foo BAR");
+    /// assert_eq!(rt; searcher.try_find(input)?, Some(Match::must(0, 4..7)));
     /// ```
     pub fn ascii_case_insensitive(&mut self, yes: bool) -> &mut AhoCorasickBuilder
         ensures value { result.now ≡ record self.old { engine = record self.old.engine { ignores_case = yes } } }
@@ -169,9 +179,12 @@ impl AhoCorasickBuilder {
     ///
     /// ```
     /// let mut builder = AhoCorasickBuilder::new();
-    /// builder.kind(Some(AhoCorasickKind::DFA));
+    /// builder.kind(Some(AhoCorasickKind::ContiguousNFA));
+    /// builder.dense_depth(0).byte_classes(false).prefilter(false);
     /// let searcher = builder.build(alloc, &[b"foo", b"bar"])?;
-    /// searcher.kind() // AhoCorasickKind::DFA
+    /// assert_eq!(rt; searcher.kind(), AhoCorasickKind::ContiguousNFA);
+    /// let found = searcher.try_find(Input::new(b"xx bar"))?;
+    /// assert_eq!(rt; found, Some(Match::must(1, 3..6))); // as with any engine
     /// ```
     pub fn kind(&mut self, kind: Option<AhoCorasickKind>) -> &mut AhoCorasickBuilder
         ensures value { result.now ≡ record self.old { kind = kind } }
@@ -188,7 +201,8 @@ impl AhoCorasickBuilder {
     /// States of more than 127 transitions, the dead state and the starts are dense always.
     ///
     /// It changes no answer of a search. Where no engine was named, a contiguous NFA may be too large with more dense
-    /// states, and then the noncontiguous one serves. This ports `AhoCorasickBuilder::dense_depth`.
+    /// states, and then the noncontiguous one serves. This ports `AhoCorasickBuilder::dense_depth`. See the example of
+    /// `kind`.
     pub fn dense_depth(&mut self, depth: usize) -> &mut AhoCorasickBuilder
         ensures value { result.now ≡ record self.old { dense_depth = depth } }
         ensures same { result.ghost_name ≡ self.entry.ghost_name }
@@ -201,7 +215,7 @@ impl AhoCorasickBuilder {
     /// memory. They do unless set.
     ///
     /// It changes no answer of a search. Where no engine was named, an engine may be too large without classes, and
-    /// then another one serves. This ports `AhoCorasickBuilder::byte_classes`.
+    /// then another one serves. This ports `AhoCorasickBuilder::byte_classes`. See the example of `kind`.
     pub fn byte_classes(&mut self, yes: bool) -> &mut AhoCorasickBuilder
         ensures value { result.now ≡ record self.old { byte_classes = yes } }
         ensures same { result.ghost_name ≡ self.entry.ghost_name }
@@ -212,7 +226,7 @@ impl AhoCorasickBuilder {
 
     /// Sets whether searches may skip ahead with a prefilter, where there is one for the patterns. They may unless set.
     ///
-    /// It changes no answer. This ports `AhoCorasickBuilder::prefilter`.
+    /// It changes no answer. This ports `AhoCorasickBuilder::prefilter`. See the example of `kind`.
     pub fn prefilter(&mut self, yes: bool) -> &mut AhoCorasickBuilder
         ensures value { result.now ≡ record self.old { engine = record self.old.engine { prefilter = yes } } }
         ensures same { result.ghost_name ≡ self.entry.ghost_name }
@@ -233,10 +247,7 @@ impl AhoCorasickBuilder {
     /// `StateIdOverflow` only where the noncontiguous NFA would need more states than there are numbers, or where
     /// another engine was named that would be too large, and `Memory` where a request for memory is refused.
     ///
-    /// ```
-    /// let searcher = AhoCorasickBuilder::new().build(alloc, &[b"foo", b"bar", b"baz"])?;
-    /// searcher.try_find(Input::new(b"xxx bar xxx"))? // pattern 1, 4..7
-    /// ```
+    /// See the example of `AhoCorasickBuilder`.
     pub fn build<A: Allocator + Clone>(
         &self,
         alloc: A,

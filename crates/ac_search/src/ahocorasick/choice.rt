@@ -25,9 +25,12 @@ pub enum AhoCorasickKind {
 /// serves, where that fits; else the noncontiguous one.
 ///
 /// ```
-/// choose_kind(3, StartKind::Unanchored, true, true) // AhoCorasickKind::DFA
-/// choose_kind(3, StartKind::Both, true, true) // AhoCorasickKind::ContiguousNFA
-/// choose_kind(101, StartKind::Unanchored, true, false) // AhoCorasickKind::NoncontiguousNFA
+/// let few = choose_kind(3, StartKind::Unanchored, true, true);
+/// assert_eq!(rt; few, AhoCorasickKind::DFA);
+/// let both = choose_kind(3, StartKind::Both, true, true);
+/// assert_eq!(rt; both, AhoCorasickKind::ContiguousNFA);
+/// let large = choose_kind(101, StartKind::Unanchored, true, false);
+/// assert_eq!(rt; large, AhoCorasickKind::NoncontiguousNFA);
 /// ```
 pub fn choose_kind(
     patterns_len: usize,

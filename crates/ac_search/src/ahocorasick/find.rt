@@ -25,9 +25,9 @@ impl<A: Allocator> AhoCorasick<A> {
     /// `laws::finds_if_something_occurs` says that this is whether `find` returns a match.
     ///
     /// ```
-    /// // a searcher over "foo", "bar" and "quux"
-    /// searcher.is_match(Input::new(b"xxx bar xxx")) // true
-    /// searcher.is_match(Input::new(b"xxx qux xxx")) // false
+    /// let searcher = AhoCorasick::new(alloc, &[b"foo", b"bar", b"quux"])?;
+    /// assert!(rt; searcher.is_match(Input::new(b"xxx bar xxx")));
+    /// assert!(rt; !searcher.is_match(Input::new(b"xxx qux xxx")));
     /// ```
     #[inline]
     pub fn is_match(&self, input: Input<'_>) -> bool
@@ -49,11 +49,11 @@ impl<A: Allocator> AhoCorasick<A> {
     /// picked.
     ///
     /// ```
-    /// // a searcher over "b", "abc" and "abcd"
-    /// searcher.find(Input::new(b"abcd"))
-    /// // `MatchKind::Standard`: pattern 0, 1..2, which ends first
-    /// // `MatchKind::LeftmostFirst`: pattern 1, 0..3, the first pattern of those that start first
-    /// // `MatchKind::LeftmostLongest`: pattern 2, 0..4, the longest of those that start first
+    /// let patterns: &[&[u8]] = &[b"apple", b"maple", b"Snapple"];
+    /// let searcher = AhoCorasick::new(alloc, patterns)?;
+    /// let text = "Nobody likes maple in their apple flavored Snapple.";
+    /// let found = searcher.find(Input::of_text(text));
+    /// assert_eq!(rt; found, Some(Match::must(1, 13..18)));
     /// ```
     #[inline]
     pub fn find(&self, input: Input<'_>) -> Option<Match>
@@ -75,10 +75,12 @@ impl<A: Allocator> AhoCorasick<A> {
     /// `laws::walk_is_in_order` says that they don't overlap.
     ///
     /// ```
-    /// // a searcher over "append", "appendage" and "app", with `MatchKind::LeftmostFirst`
-    /// for found in searcher.find_iter(Input::new(b"append the app to the appendage")) {
-    ///     // pattern 0, 0..6; pattern 2, 11..14; pattern 0, 22..28
+    /// let searcher = AhoCorasick::new(alloc, &[b"apple", b"maple"])?;
+    /// let mut ends = Vec::new(alloc);
+    /// for m in searcher.find_iter(Input::new(b"maple, apple")) {
+    ///     ends.push(m.end())?; // pattern 1 at 0..5, pattern 0 at 7..12
     /// }
+    /// assert_eq!(rt; ends.as_slice(), [5, 12].as_slice());
     /// ```
     #[inline]
     pub fn find_iter<'a, 'h>(&'a self, input: Input<'h>) -> FindIter<'a, 'h, A>
@@ -100,10 +102,11 @@ impl<A: Allocator> AhoCorasick<A> {
     /// `InvalidInputUnanchored` where it is the other way around. The haystack has no influence on this.
     ///
     /// ```
-    /// // a searcher over "bar", with `StartKind::Unanchored`
+    /// let searcher = AhoCorasick::new(alloc, &[b"bar"])?;
     /// let input = Input::new(b"foo bar");
-    /// searcher.try_find(input)? // pattern 0, 4..7
-    /// searcher.try_find(input.anchored(Anchored::Yes)) // `MatchError::InvalidInputAnchored`
+    /// assert_eq!(rt; searcher.try_find(input), Ok(Some(Match::must(0, 4..7))));
+    /// let refused = searcher.try_find(input.anchored(Anchored::Yes));
+    /// assert_eq!(rt; refused, Err(MatchError::InvalidInputAnchored));
     /// ```
     #[inline]
     pub fn try_find(&self, input: Input<'_>) -> Result<Option<Match>, MatchError>
@@ -118,6 +121,17 @@ impl<A: Allocator> AhoCorasick<A> {
     ///
     /// # Errors
     /// As `try_find`.
+    ///
+    /// ```
+    /// let mut builder = AhoCorasick::builder();
+    /// builder.start_kind(StartKind::Anchored);
+    /// let searcher = builder.build(alloc, &[b"ab"])?;
+    /// let input = Input::new(b"abxab");
+    /// let refused = searcher.try_find_iter(input).err();
+    /// assert_eq!(rt; refused, Some(MatchError::InvalidInputUnanchored));
+    /// let mut matches = searcher.try_find_iter(input.anchored(Anchored::Yes))?;
+    /// assert_eq!(rt; matches.next(), Some(Match::must(0, 0..2)));
+    /// ```
     #[inline]
     pub fn try_find_iter<'a, 'h>(
         &'a self,
@@ -138,6 +152,8 @@ impl<A: Allocator> AhoCorasick<A> {
 /// After the last match it keeps returning `None`. Contracts see the matches still to come, and what was read and
 /// counted since it was made. A call makes one find, or two where the first finds an empty match again at the end of
 /// the match before. Under `MatchKind::Standard`, or with `earliest`, all calls together keep the bounds of one find.
+///
+/// See the example of `AhoCorasick::try_find_iter`.
 #[derive(Drop)]
 pub struct FindIter<'a, 'h, A: Allocator = Global> {
     pub(super) matches: EngineFindIter<'a, 'h, A>,

@@ -27,17 +27,14 @@ impl<A: Allocator> AhoCorasick<A> {
     /// has to be fresh, or left by this searcher over this same input.
     ///
     /// ```
-    /// // a searcher over "append", "appendage" and "app", with `MatchKind::Standard`
-    /// let input = Input::new(b"append the app");
-    /// let mut state = OverlappingState::start();
+    /// let searcher = AhoCorasick::new(alloc, &[b"append", b"appendage", b"app"])?;
+    /// let (input, mut state) = (Input::new(b"append"), OverlappingState::start());
     /// searcher.find_overlapping(input, &mut state);
-    /// state.get_match() // pattern 2, 0..3
+    /// assert_eq!(rt; state.get_match(), Some(Match::must(2, 0..3)));
     /// searcher.find_overlapping(input, &mut state);
-    /// state.get_match() // pattern 0, 0..6
+    /// assert_eq!(rt; state.get_match(), Some(Match::must(0, 0..6)));
     /// searcher.find_overlapping(input, &mut state);
-    /// state.get_match() // pattern 2, 11..14
-    /// searcher.find_overlapping(input, &mut state);
-    /// state.get_match() // None
+    /// assert_eq!(rt; state.get_match(), None);
     /// ```
     #[inline]
     pub fn find_overlapping(&self, input: Input<'_>, state: &mut OverlappingState)
@@ -60,9 +57,11 @@ impl<A: Allocator> AhoCorasick<A> {
     /// loop over them.
     ///
     /// ```
-    /// // a searcher over "append", "appendage" and "app", with `MatchKind::Standard`
-    /// for found in searcher.find_overlapping_iter(Input::new(b"append the app")) {
-    ///     // pattern 2, 0..3; pattern 0, 0..6; pattern 2, 11..14
+    /// let patterns: &[&[u8]] = &[b"append", b"appendage", b"app"];
+    /// let searcher = AhoCorasick::new(alloc, patterns)?;
+    /// let mut all = Vec::new(alloc);
+    /// for m in searcher.find_overlapping_iter(Input::new(b"appendage")) {
+    ///     all.push(m)?; // pattern 2 at 0..3, pattern 0 at 0..6, pattern 1 at 0..9
     /// }
     /// ```
     #[inline]
@@ -88,6 +87,16 @@ impl<A: Allocator> AhoCorasick<A> {
     /// # Errors
     /// As `try_find`, else `UnsupportedOverlapping` where the match kind isn't `MatchKind::Standard`. The state is then
     /// as it was.
+    ///
+    /// ```
+    /// let mut builder = AhoCorasick::builder();
+    /// builder.match_kind(MatchKind::LeftmostFirst);
+    /// let searcher = builder.build(alloc, &[b"append", b"app"])?;
+    /// let mut state = OverlappingState::start();
+    /// let outcome = searcher.try_find_overlapping(Input::new(b"append"), &mut state);
+    /// let got = MatchKind::LeftmostFirst;
+    /// assert_eq!(rt; outcome, Err(MatchError::UnsupportedOverlapping { got }));
+    /// ```
     #[inline]
     pub fn try_find_overlapping(
         &self,
@@ -106,6 +115,13 @@ impl<A: Allocator> AhoCorasick<A> {
     ///
     /// # Errors
     /// As `try_find_overlapping`, else `InvalidInputAnchored` for an anchored input.
+    ///
+    /// ```
+    /// let searcher = AhoCorasick::new(alloc, &[b"append", b"app"])?;
+    /// let mut matches = searcher.try_find_overlapping_iter(Input::new(b"append"))?;
+    /// assert_eq!(rt; matches.next(), Some(Match::must(1, 0..3)));
+    /// assert_eq!(rt; matches.next(), Some(Match::must(0, 0..6)));
+    /// ```
     #[inline]
     pub fn try_find_overlapping_iter<'a, 'h>(
         &'a self,
@@ -126,6 +142,8 @@ impl<A: Allocator> AhoCorasick<A> {
 /// After the last occurrence it keeps returning `None`. Contracts see the occurrences still to come, and what was read
 /// and counted since it was made: all calls together read each byte of the span at most once, and none past the end of
 /// the occurrence that was returned last.
+///
+/// See the example of `AhoCorasick::try_find_overlapping_iter`.
 #[derive(Drop)]
 pub struct FindOverlappingIter<'a, 'h, A: Allocator = Global> {
     pub(super) items: EngineFindOverlappingIter<'a, 'h, A>,

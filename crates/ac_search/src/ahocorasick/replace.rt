@@ -22,9 +22,10 @@ impl<A: Allocator> AhoCorasick<A> {
     /// `AllocError` where a request for memory is refused.
     ///
     /// ```
-    /// // a searcher over "append", "appendage" and "app", with `MatchKind::LeftmostFirst`
-    /// searcher.replace_all(alloc, "append the app to the appendage", &["x", "y", "z"])?
-    /// // "x the z to the xage"
+    /// let searcher = AhoCorasick::new(alloc, &[b"append", b"appendage", b"app"])?;
+    /// let text = "append the app to the appendage";
+    /// let replaced = searcher.replace_all(alloc, text, &["x", "y", "z"])?;
+    /// assert_eq!(rt; replaced.as_str(), "zend the z to the zendage");
     /// ```
     pub fn replace_all<Z: Allocator>(
         &self,
@@ -50,9 +51,10 @@ impl<A: Allocator> AhoCorasick<A> {
     /// `AllocError` where a request for memory is refused.
     ///
     /// ```
-    /// // a searcher over "fox", "brown" and "quick"
-    /// searcher.replace_all_bytes(alloc, b"The quick brown fox.", &[b"sloth", b"grey", b"slow"])?
-    /// // b"The slow grey sloth."
+    /// let searcher = AhoCorasick::new(alloc, &[b"fox", b"brown", b"quick"])?;
+    /// let texts: &[&[u8]] = &[b"sloth", b"grey", b"slow"];
+    /// let replaced = searcher.replace_all_bytes(alloc, b"The quick brown fox.", texts)?;
+    /// assert_eq!(rt; replaced.as_slice(), b"The slow grey sloth.".as_slice());
     /// ```
     pub fn replace_all_bytes<Z: Allocator>(
         &self,
@@ -81,10 +83,12 @@ impl<A: Allocator> AhoCorasick<A> {
     /// `AllocError` where a request for memory is refused. The destination is then as the steps before left it.
     ///
     /// ```
-    /// // a searcher over "append", "appendage" and "app", with `MatchKind::LeftmostFirst`
-    /// searcher.replace_all_with("append the app", &mut destination, |_, slice, destination| {
+    /// let searcher = AhoCorasick::new(alloc, &[b"append", b"app"])?;
+    /// let mut destination = String::new(alloc);
+    /// searcher.replace_all_with("the app", &mut destination, |_, slice, destination| {
     ///     destination.push_str(slice).is_ok() && destination.push_str("!").is_ok()
-    /// })?; // appends "append! the app!"
+    /// })?;
+    /// assert_eq!(rt; destination.as_str(), "the app!");
     /// ```
     pub fn replace_all_with<F>(
         &self,
@@ -110,10 +114,12 @@ impl<A: Allocator> AhoCorasick<A> {
     /// As `replace_all_with`.
     ///
     /// ```
-    /// // a searcher over "password"
-    /// searcher.replace_all_with_bytes(b"a password here", &mut destination, |_, _, destination| {
+    /// let searcher = AhoCorasick::new(alloc, &[b"password"])?;
+    /// let mut destination = Vec::new(alloc);
+    /// searcher.replace_all_with_bytes(b"a password", &mut destination, |_, _, destination| {
     ///     destination.extend_from_slice(b"***").is_ok()
-    /// })?; // appends b"a *** here"
+    /// })?;
+    /// assert_eq!(rt; destination.as_slice(), b"a ***".as_slice());
     /// ```
     pub fn replace_all_with_bytes<F>(
         &self,
@@ -138,6 +144,14 @@ impl<A: Allocator> AhoCorasick<A> {
     /// # Errors
     /// `ReplaceError::Match` with `InvalidInputUnanchored` where the searcher doesn't support unanchored searches, else
     /// `ReplaceError::Memory` where a request for memory is refused.
+    ///
+    /// ```
+    /// let patterns: &[&[u8]] = &[b"fox", b"brown", b"quick"];
+    /// let searcher = AhoCorasick::new(alloc, patterns)?;
+    /// let text = "The quick brown fox.";
+    /// let sloth = searcher.try_replace_all(alloc, text, &["sloth", "grey", "slow"])?;
+    /// assert_eq!(rt; sloth.as_str(), "The slow grey sloth.");
+    /// ```
     pub fn try_replace_all<Z: Allocator>(
         &self,
         alloc: Z,
@@ -158,6 +172,8 @@ impl<A: Allocator> AhoCorasick<A> {
     ///
     /// # Errors
     /// As `try_replace_all`.
+    ///
+    /// See the example of `replace_all_bytes`.
     pub fn try_replace_all_bytes<Z: Allocator>(
         &self,
         alloc: Z,
@@ -179,6 +195,15 @@ impl<A: Allocator> AhoCorasick<A> {
     /// # Errors
     /// As `try_replace_all`. Where the search is refused the destination is as it was; where memory is refused it is as
     /// the steps before left it.
+    ///
+    /// ```
+    /// let searcher = AhoCorasick::new(alloc, &[b"a"])?;
+    /// let mut destination = String::new(alloc);
+    /// searcher.try_replace_all_with("aba", &mut destination, |m, _, destination| {
+    ///     m.start() > 0 && destination.push_str("x").is_ok()
+    /// })?;
+    /// assert_eq!(rt; destination.as_str(), "ba"); // it stopped at the first match
+    /// ```
     pub fn try_replace_all_with<F>(
         &self,
         haystack: &str,
@@ -201,6 +226,15 @@ impl<A: Allocator> AhoCorasick<A> {
     ///
     /// # Errors
     /// As `try_replace_all_with`.
+    ///
+    /// ```
+    /// let searcher = AhoCorasick::new(alloc, &[b"a"])?;
+    /// let mut destination = Vec::new(alloc);
+    /// searcher.try_replace_all_with_bytes(b"aba", &mut destination, |_, slice, destination| {
+    ///     destination.extend_from_slice(slice).is_ok() && destination.push(b'!').is_ok()
+    /// })?;
+    /// assert_eq!(rt; destination.as_slice(), b"a!ba!".as_slice());
+    /// ```
     pub fn try_replace_all_with_bytes<F>(
         &self,
         haystack: &[u8],

@@ -34,10 +34,12 @@ impl<A: Allocator> AhoCorasick<A> {
     /// `AllocError` where the memory for the buffer is refused.
     ///
     /// ```
-    /// // a searcher over "append", "appendage" and "app", with `MatchKind::Standard`
+    /// let searcher = AhoCorasick::new(alloc, &[b"append", b"appendage", b"app"])?;
+    /// let mut ends = Vec::new(alloc);
     /// for found in searcher.stream_find_iter(alloc, Bytes::new(b"append the app"))? {
-    ///     let found = found?; // pattern 2, 0..3; pattern 2, 11..14
+    ///     ends.push(found?.end())?; // pattern 2 at 0..3, pattern 2 at 11..14
     /// }
+    /// assert_eq!(rt; ends.as_slice(), [3, 14].as_slice());
     /// ```
     pub fn stream_find_iter<R: Source + Drop, Z: Allocator>(
         &self,
@@ -57,6 +59,8 @@ impl<A: Allocator> AhoCorasick<A> {
     /// `StreamError::Match` with `InvalidInputUnanchored` where the searcher doesn't support unanchored searches, else
     /// with `UnsupportedEmpty` where some pattern is empty; else `StreamError::Memory` where the memory for the buffer
     /// is refused. Nothing was read then.
+    ///
+    /// See the example of `stream_find_iter`.
     pub fn try_stream_find_iter<R: Source + Drop, Z: Allocator>(
         &self,
         alloc: Z,
@@ -84,11 +88,12 @@ impl<A: Allocator> AhoCorasick<A> {
     /// alone.
     ///
     /// ```
-    /// // a searcher over "fox", "brown" and "quick"
-    /// let mut reader = Bytes::new(b"The quick brown fox.");
+    /// let patterns: &[&[u8]] = &[b"secret", b"password"];
+    /// let searcher = AhoCorasick::new(alloc, patterns)?;
+    /// let mut reader = Bytes::new(b"a secret password");
     /// let mut writer = Written::new(alloc);
-    /// searcher.try_stream_replace_all(alloc, &mut reader, &mut writer, &[b"sloth", b"grey", b"slow"])?;
-    /// // writes "The slow grey sloth."
+    /// searcher.try_stream_replace_all(alloc, &mut reader, &mut writer, &[b"***", b"***"])?;
+    /// assert_eq!(rt; writer.bytes(), b"a *** ***".as_slice());
     /// ```
     pub fn try_stream_replace_all<R: Source, W: Sink, Z: Allocator>(
         &self,
@@ -118,20 +123,14 @@ impl<A: Allocator> AhoCorasick<A> {
     /// follows. The law `closures_write_exchanged` says what was written by the stream alone.
     ///
     /// ```
-    /// // a searcher over "fox", "brown" and "quick"
-    /// let mut reader = Bytes::new(b"The quick brown fox.");
-    /// let mut writer = Written::new(alloc);
-    /// searcher.try_stream_replace_all_with(
-    ///     alloc,
-    ///     &mut reader,
-    ///     &mut writer,
-    ///     |_, slice, writer: &mut Written<Global>| {
-    ///         write_all(writer, b"<")?;
-    ///         write_all(writer, slice)?;
-    ///         write_all(writer, b">")?;
-    ///         Ok(())
-    ///     },
-    /// )?; // writes "The <quick> <brown> <fox>."
+    /// let searcher = AhoCorasick::new(alloc, &[b"fox", b"brown", b"quick"])?;
+    /// let (mut reader, mut writer) = (Bytes::new(b"a fox"), Written::new(alloc));
+    /// let closure = |_: &Match, slice: &[u8], writer: &mut Written<Global>| {
+    ///     write_all(writer, slice)?;
+    ///     Ok(write_all(writer, b"!")?)
+    /// };
+    /// searcher.try_stream_replace_all_with(alloc, &mut reader, &mut writer, closure)?;
+    /// assert_eq!(rt; writer.bytes(), b"a fox!".as_slice());
     /// ```
     pub fn try_stream_replace_all_with<R: Source, W: Sink, Z: Allocator, F>(
         &self,
@@ -155,6 +154,8 @@ impl<A: Allocator> AhoCorasick<A> {
     ///
     /// # Errors
     /// As `try_stream_find_iter`.
+    ///
+    /// See the example of `StreamFinder`.
     pub fn try_stream_finder<Z: Allocator>(
         &self,
         alloc: Z,
@@ -173,6 +174,17 @@ impl<A: Allocator> AhoCorasick<A> {
 ///
 /// The matches are those of the walk over all bytes that the readers gave, however they cut them. Contracts see all
 /// bytes that were read, and how many of their matches were returned.
+///
+/// ```
+/// let searcher = AhoCorasick::new(alloc, &[b"append", b"app"])?;
+/// let mut finder = searcher.try_stream_finder(alloc)?;
+/// let found = finder.next(&mut Bytes::new(b"append the ap")).transpose()?;
+/// assert_eq!(rt; found, Some(Match::must(1, 0..3)));
+/// assert_eq!(rt; finder.next_read(), None); // "ap" may begin a match
+/// let found = finder.next(&mut Bytes::new(b"p")).transpose()?;
+/// assert_eq!(rt; found, Some(Match::must(1, 11..14)));
+/// assert_eq!(rt; (finder.kept_len(), finder.buffer_len()), (0, 65_536));
+/// ```
 #[derive(Drop)]
 pub struct StreamFinder<'a, A: Allocator = Global, Z: Allocator = Global> {
     finder: EngineStreamFinder<'a, A, Z>,

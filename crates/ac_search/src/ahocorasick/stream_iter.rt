@@ -16,6 +16,17 @@ use std::marker::Model;
 /// stream from 0. An item is `Io` where a read failed, and `TooLong` where more bytes came than a `usize` counts. The
 /// first error is the last item: after an error, as after the end, it keeps returning `None`, and the reader isn't
 /// called again. Before each read all matches of the bytes read so far that are settled were returned.
+///
+/// ```
+/// let searcher = AhoCorasick::new(alloc, &[b"append", b"app"])?;
+/// let mut matches = searcher.stream_find_iter(alloc, Bytes::new(b"append the app"))?;
+/// assert_eq!(rt; (matches.buffer_len(), matches.kept_len()), (65_536, 0));
+/// assert_eq!(rt; matches.next_read(), None); // nothing was read yet
+/// assert_eq!(rt; matches.next().transpose()?, Some(Match::must(1, 0..3)));
+/// assert_eq!(rt; matches.kept_len(), 11); // all that was read from the end of the match on
+/// assert_eq!(rt; matches.next_read(), Some(Match::must(1, 11..14)));
+/// assert_eq!(rt; matches.next().transpose()?, None);
+/// ```
 #[derive(Drop)]
 pub struct StreamFindIter<'a, R: Source + Drop, A: Allocator = Global, Z: Allocator = Global> {
     pub(super) finder: StreamFinder<'a, A, Z>,

@@ -13,6 +13,12 @@ use std::ops::Range;
 ///
 /// ```
 /// let input = Input::new(b"foobar").range(3..6).anchored(Anchored::Yes);
+/// assert_eq!(rt; input.haystack(), b"foobar".as_slice());
+/// assert_eq!(rt; (input.start(), input.end()), (3, 6));
+/// assert_eq!(rt; input.get_span(), Span { start: 3, end: 6 });
+/// assert_eq!(rt; input.get_range(), 3..6);
+/// assert_eq!(rt; input.get_anchored(), Anchored::Yes);
+/// assert!(rt; !input.get_earliest() && !input.is_done());
 /// ```
 #[derive(Clone, Copy, Debug)]
 pub struct Input<'h> {
@@ -44,6 +50,12 @@ impl<'h> Input<'h> {
     }
 
     /// Returns an input that searches a whole text. Offsets count its bytes, not its characters.
+    ///
+    /// ```
+    /// let input = Input::of_text("\u{e9}b");
+    /// assert_eq!(rt; input.haystack(), b"\xc3\xa9b".as_slice());
+    /// assert_eq!(rt; input.get_range(), 0..3);
+    /// ```
     #[inline]
     pub fn of_text(text: &'h str) -> Input<'h>
         ensures value { input_of result ≡ whole_input text.now }
@@ -56,7 +68,11 @@ impl<'h> Input<'h> {
     /// The span has to end within the haystack, and to start no later than one past its own end.
     ///
     /// ```
-    /// let input = Input::new(b"foobar").span(Span { start: 3, end: 6 }); // searches "bar"
+    /// let searcher = AhoCorasick::new(alloc, &[b"foo", b"bar"])?;
+    /// let input = Input::new(b"foobar").range(3..6);
+    /// assert_eq!(rt; searcher.find(input), Some(Match::must(1, 3..6)));
+    /// let input = Input::new(b"foobar").span(Span { start: 0, end: 3 });
+    /// assert_eq!(rt; searcher.find(input), Some(Match::must(0, 0..3)));
     /// ```
     #[inline]
     pub fn span(mut self, span: Span) -> Input<'h>
@@ -72,7 +88,11 @@ impl<'h> Input<'h> {
     /// The range has to end within the haystack, and to start no later than one past its own end.
     ///
     /// ```
-    /// let input = Input::new(b"foobar").range(3..6); // searches "bar"
+    /// let searcher = AhoCorasick::new(alloc, &[b"foo", b"bar"])?;
+    /// let input = Input::new(b"foobar").range(3..6);
+    /// assert_eq!(rt; searcher.find(input), Some(Match::must(1, 3..6)));
+    /// let input = Input::new(b"foobar").span(Span { start: 0, end: 3 });
+    /// assert_eq!(rt; searcher.find(input), Some(Match::must(0, 0..3)));
     /// ```
     #[inline]
     pub fn range(mut self, range: Range<usize>) -> Input<'h>
@@ -86,10 +106,13 @@ impl<'h> Input<'h> {
     /// Returns the input with this anchoring. `Anchored::No` unless set. This ports `Input::anchored`.
     ///
     /// ```
-    /// // a searcher over "bar", with `StartKind::Both`
+    /// let mut builder = AhoCorasick::builder();
+    /// builder.start_kind(StartKind::Both);
+    /// let searcher = builder.build(alloc, &[b"bar"])?;
     /// let input = Input::new(b"foo bar").anchored(Anchored::Yes);
-    /// searcher.try_find(input)? // None
-    /// searcher.try_find(input.range(4..7))? // pattern 0, 4..7
+    /// assert_eq!(rt; searcher.try_find(input)?, None);
+    /// let found = searcher.try_find(input.range(4..7))?;
+    /// assert_eq!(rt; found, Some(Match::must(0, 4..7)));
     /// ```
     #[inline]
     pub fn anchored(mut self, mode: Anchored) -> Input<'h>
@@ -105,9 +128,13 @@ impl<'h> Input<'h> {
     /// With it a search returns the match that `MatchKind::Standard` picks, under every match kind.
     ///
     /// ```
-    /// // a searcher over "b", "abc" and "abcd", with `MatchKind::LeftmostLongest`
-    /// searcher.find(Input::new(b"abcd")) // pattern 2, 0..4
-    /// searcher.find(Input::new(b"abcd").earliest(true)) // pattern 0, 1..2
+    /// let mut builder = AhoCorasick::builder();
+    /// builder.match_kind(MatchKind::LeftmostLongest);
+    /// let searcher = builder.build(alloc, &[b"b", b"abc", b"abcd"])?;
+    /// let input = Input::new(b"abcd");
+    /// assert_eq!(rt; searcher.try_find(input)?, Some(Match::must(2, 0..4)));
+    /// let earliest = searcher.try_find(input.earliest(true))?;
+    /// assert_eq!(rt; earliest, Some(Match::must(0, 1..2)));
     /// ```
     #[inline]
     pub fn earliest(mut self, yes: bool) -> Input<'h>
@@ -118,6 +145,16 @@ impl<'h> Input<'h> {
     }
 
     /// Sets the span, which has to end within the haystack and to start no later than one past its own end.
+    ///
+    /// ```
+    /// let mut input = Input::new(b"foobar");
+    /// input.set_span(Span { start: 1, end: 5 });
+    /// input.set_start(3);
+    /// input.set_end(6);
+    /// assert_eq!(rt; input.get_range(), 3..6);
+    /// input.set_range(6..5);
+    /// assert!(rt; input.is_done());
+    /// ```
     #[inline]
     pub fn set_span(&mut self, span: Span)
         requires legal { IsLegal (input_of self.old).haystack span.start span.end }
@@ -139,7 +176,7 @@ impl<'h> Input<'h> {
     }
 
     /// Sets the span to that of this range, which has to end within the haystack and to start no later than one past
-    /// its own end.
+    /// its own end. See the example of `set_span`.
     #[inline]
     pub fn set_range(&mut self, range: Range<usize>)
         requires legal { IsLegal (input_of self.old).haystack range.start range.end }
@@ -151,7 +188,7 @@ impl<'h> Input<'h> {
         });
     }
 
-    /// Sets the offset where the span starts: no later than one past the span's end.
+    /// Sets the offset where the span starts: no later than one past the span's end. See the example of `set_span`.
     #[inline]
     pub fn set_start(&mut self, start: usize)
         requires legal { start ≤ (input_of self.old).end + 1 }
@@ -160,7 +197,8 @@ impl<'h> Input<'h> {
         self.start = start;
     }
 
-    /// Sets the offset where the span ends: within the haystack, and no earlier than one before the span's start.
+    /// Sets the offset where the span ends: within the haystack, and no earlier than one before the span's start. See
+    /// the example of `set_span`.
     #[inline]
     pub fn set_end(&mut self, end: usize)
         requires legal { IsLegal (input_of self.old).haystack (input_of self.old).start end }
@@ -173,6 +211,13 @@ impl<'h> Input<'h> {
     }
 
     /// Sets whether a match has to start where the span starts.
+    ///
+    /// ```
+    /// let mut input = Input::new(b"foobar");
+    /// input.set_anchored(Anchored::Yes);
+    /// input.set_earliest(true);
+    /// assert!(rt; input.get_anchored().is_anchored() && input.get_earliest());
+    /// ```
     #[inline]
     pub fn set_anchored(&mut self, mode: Anchored)
         ensures value { input_of self.new ≡ record (input_of self.old) { anchored = mode } }
@@ -180,7 +225,8 @@ impl<'h> Input<'h> {
         self.anchored = mode;
     }
 
-    /// Sets whether the search ends at the earliest offset at which some match is known.
+    /// Sets whether the search ends at the earliest offset at which some match is known. See the example of
+    /// `set_anchored`.
     #[inline]
     pub fn set_earliest(&mut self, yes: bool)
         ensures value { input_of self.new ≡ record (input_of self.old) { earliest = yes } }

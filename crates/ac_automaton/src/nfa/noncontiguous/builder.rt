@@ -21,8 +21,10 @@ use std::marker::Model;
 /// ```
 /// let mut builder = noncontiguous::Builder::new();
 /// builder.match_kind(MatchKind::LeftmostFirst);
+/// builder.ascii_case_insensitive(true).prefilter(false);
 /// let nfa = builder.build(alloc, &[b"Sam", b"Samwise"])?;
-/// nfa.try_find(Input::new(b"Samwise"))? // pattern 0, 0..3
+/// let found = nfa.try_find(Input::new(b"SAMWISE"))?;
+/// assert_eq!(rt; found, Some(Match::must(0, 0..3)));
 /// ```
 #[derive(Debug, Drop)]
 pub struct Builder {

@@ -26,9 +26,11 @@ const USUAL_DENSE_DEPTH: usize = 2;
 ///
 /// ```
 /// let mut builder = contiguous::Builder::new();
-/// builder.match_kind(MatchKind::LeftmostFirst).dense_depth(3);
+/// builder.match_kind(MatchKind::LeftmostFirst);
+/// builder.dense_depth(3).byte_classes(false).prefilter(false);
 /// let nfa = builder.build(alloc, &[b"Sam", b"Samwise"])?;
-/// nfa.try_find(Input::new(b"Samwise"))? // pattern 0, 0..3
+/// let found = nfa.try_find(Input::new(b"Samwise"))?;
+/// assert_eq!(rt; found, Some(Match::must(0, 0..3)));
 /// ```
 #[derive(Debug, Drop)]
 pub struct Builder {

@@ -33,9 +33,9 @@ pub enum Format {
 /// A state of a depth less than `dense_depth` is dense, and so is one with more than 127 transitions.
 ///
 /// ```
-/// format_of(1, 2, 1, 0) // Format::Dense
-/// format_of(2, 2, 1, 0) // Format::One
-/// format_of(2, 2, 1, 1) // Format::Sparse
+/// assert_eq!(rt; format_of(1, 2, 1, 0), Format::Dense);
+/// assert_eq!(rt; format_of(2, 2, 1, 0), Format::One);
+/// assert_eq!(rt; format_of(2, 2, 1, 1), Format::Sparse);
 /// ```
 pub fn format_of(depth: usize, dense_depth: usize, transitions: usize, matches: usize) -> Format
     ensures { result ≡ format_of depth dense_depth transitions matches }
@@ -52,8 +52,8 @@ pub fn format_of(depth: usize, dense_depth: usize, transitions: usize, matches: 
 /// Returns how many words a state in this form takes, with so many classes of bytes, transitions and matches.
 ///
 /// ```
-/// state_words(Format::Dense, 3, 1, 0) // 5
-/// state_words(Format::Sparse, 30, 5, 2) // 2 + 2 + 5 + 3 = 12
+/// assert_eq!(rt; state_words(Format::Dense, 3, 1, 0), 5);
+/// assert_eq!(rt; state_words(Format::Sparse, 30, 5, 2), 12); // 2 + 2 + 5 + 3
 /// ```
 pub fn state_words(format: Format, classes: u64, transitions: u64, matches: u64) -> u64
     requires classes { classes ≤ 256 }

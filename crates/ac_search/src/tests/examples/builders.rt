@@ -1,0 +1,31 @@
+//! The builder of a searcher.
+use crate::{AhoCorasickBuilder, AhoCorasickKind, Anchored, Input, Match, MatchError, StartKind};
+use std::test::Fail;
+
+#[test]
+fn starts_of_searches(rt: HostRuntime) -> Result<(), Fail> {
+    let alloc = rt.alloc();
+    let mut builder = AhoCorasickBuilder::new();
+    builder.start_kind(StartKind::Anchored);
+    let searcher = builder.build(alloc, &[b"b", b"abc"])?;
+    let input = Input::new(b"abcd");
+    let refused = searcher.try_find(input);
+    assert_eq!(rt; refused, Err(MatchError::InvalidInputUnanchored));
+    let found = searcher.try_find(input.anchored(Anchored::Yes))?;
+    assert_eq!(rt; found, Some(Match::must(1, 0..3)));
+    Ok(())
+}
+
+#[test]
+fn settings_of_engines(rt: HostRuntime) -> Result<(), Fail> {
+    let alloc = rt.alloc();
+    let mut builder = AhoCorasickBuilder::new();
+    builder.kind(Some(AhoCorasickKind::ContiguousNFA));
+    builder.dense_depth(0).byte_classes(false).prefilter(false);
+    let searcher = builder.build(alloc, &[b"foo", b"bar"])?;
+    assert_eq!(rt; searcher.kind(), AhoCorasickKind::ContiguousNFA);
+    let found = searcher.try_find(Input::new(b"xx bar"))?;
+    assert_eq!(rt; found, Some(Match::must(1, 3..6))); // as with any engine
+
+    Ok(())
+}

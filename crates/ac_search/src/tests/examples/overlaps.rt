@@ -1,0 +1,35 @@
+//! Overlapping searches.
+use crate::{AhoCorasick, Input, Match, MatchError, MatchKind, OverlappingState};
+use std::test::Fail;
+
+#[test]
+fn states_move_on(rt: HostRuntime) -> Result<(), Fail> {
+    let alloc = rt.alloc();
+    let searcher = AhoCorasick::new(alloc, &[b"append", b"appendage", b"app"])?;
+    let (input, mut state) = (Input::new(b"append"), OverlappingState::start());
+    searcher.find_overlapping(input, &mut state);
+    assert_eq!(rt; state.get_match(), Some(Match::must(2, 0..3)));
+    searcher.find_overlapping(input, &mut state);
+    assert_eq!(rt; state.get_match(), Some(Match::must(0, 0..6)));
+    searcher.find_overlapping(input, &mut state);
+    assert_eq!(rt; state.get_match(), None);
+    Ok(())
+}
+
+#[test]
+fn listings_that_may_be_refused(rt: HostRuntime) -> Result<(), Fail> {
+    let alloc = rt.alloc();
+    let mut builder = AhoCorasick::builder();
+    builder.match_kind(MatchKind::LeftmostFirst);
+    let searcher = builder.build(alloc, &[b"append", b"app"])?;
+    let mut state = OverlappingState::start();
+    let outcome = searcher.try_find_overlapping(Input::new(b"append"), &mut state);
+    let got = MatchKind::LeftmostFirst;
+    assert_eq!(rt; outcome, Err(MatchError::UnsupportedOverlapping { got }));
+
+    let searcher = AhoCorasick::new(alloc, &[b"append", b"app"])?;
+    let mut matches = searcher.try_find_overlapping_iter(Input::new(b"append"))?;
+    assert_eq!(rt; matches.next(), Some(Match::must(1, 0..3)));
+    assert_eq!(rt; matches.next(), Some(Match::must(0, 0..6)));
+    Ok(())
+}

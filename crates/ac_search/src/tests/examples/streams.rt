@@ -1,0 +1,58 @@
+//! Searches of streams, and replacement in them.
+use crate::{AhoCorasick, Bytes, Match, Written, write_all};
+use std::alloc::Global;
+use std::test::Fail;
+
+#[test]
+fn streams_are_searched(rt: HostRuntime) -> Result<(), Fail> {
+    let alloc = rt.alloc();
+    let searcher = AhoCorasick::new(alloc, &[b"append", b"appendage", b"app"])?;
+    let mut ends = Vec::new(alloc);
+    for found in searcher.stream_find_iter(alloc, Bytes::new(b"append the app"))? {
+        ends.push(found?.end())?; // pattern 2 at 0..3, pattern 2 at 11..14
+    }
+    assert_eq!(rt; ends.as_slice(), [3, 14].as_slice());
+    Ok(())
+}
+
+#[test]
+fn stream_iterators(rt: HostRuntime) -> Result<(), Fail> {
+    let alloc = rt.alloc();
+    let searcher = AhoCorasick::new(alloc, &[b"append", b"app"])?;
+    let mut matches = searcher.stream_find_iter(alloc, Bytes::new(b"append the app"))?;
+    assert_eq!(rt; (matches.buffer_len(), matches.kept_len()), (65_536, 0));
+    assert_eq!(rt; matches.next_read(), None); // nothing was read yet
+    assert_eq!(rt; matches.next().transpose()?, Some(Match::must(1, 0..3)));
+    assert_eq!(rt; matches.kept_len(), 11); // all that was read from the end of the match on
+    assert_eq!(rt; matches.next_read(), Some(Match::must(1, 11..14)));
+    assert_eq!(rt; matches.next().transpose()?, None);
+    Ok(())
+}
+
+#[test]
+fn stream_finders(rt: HostRuntime) -> Result<(), Fail> {
+    let alloc = rt.alloc();
+    let searcher = AhoCorasick::new(alloc, &[b"append", b"app"])?;
+    let mut finder = searcher.try_stream_finder(alloc)?;
+    let found = finder.next(&mut Bytes::new(b"append the ap")).transpose()?;
+    assert_eq!(rt; found, Some(Match::must(1, 0..3)));
+    assert_eq!(rt; finder.next_read(), None); // "ap" may begin a match
+    let found = finder.next(&mut Bytes::new(b"p")).transpose()?;
+    assert_eq!(rt; found, Some(Match::must(1, 11..14)));
+    assert_eq!(rt; (finder.kept_len(), finder.buffer_len()), (0, 65_536));
+    Ok(())
+}
+
+#[test]
+fn streams_are_exchanged_by_closures(rt: HostRuntime) -> Result<(), Fail> {
+    let alloc = rt.alloc();
+    let searcher = AhoCorasick::new(alloc, &[b"fox", b"brown", b"quick"])?;
+    let (mut reader, mut writer) = (Bytes::new(b"a fox"), Written::new(alloc));
+    let closure = |_: &Match, slice: &[u8], writer: &mut Written<Global>| {
+        write_all(writer, slice)?;
+        Ok(write_all(writer, b"!")?)
+    };
+    searcher.try_stream_replace_all_with(alloc, &mut reader, &mut writer, closure)?;
+    assert_eq!(rt; writer.bytes(), b"a fox!".as_slice());
+    Ok(())
+}
