@@ -348,7 +348,7 @@ pub trait Automaton {
     /// # Errors
     /// As `try_replace_all`.
     ///
-    /// See the example of `AhoCorasick::try_replace_all_bytes`, which is called alike.
+    /// See the example of `AhoCorasick::replace_all_bytes`, which is called alike.
     final fn try_replace_all_bytes<Z: Allocator>(
         &self,
         alloc: Z,

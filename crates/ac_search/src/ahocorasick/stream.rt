@@ -60,7 +60,15 @@ impl<A: Allocator> AhoCorasick<A> {
     /// with `UnsupportedEmpty` where some pattern is empty; else `StreamError::Memory` where the memory for the buffer
     /// is refused. Nothing was read then.
     ///
-    /// See the example of `stream_find_iter`.
+    /// With a searcher over "secret" and "password":
+    ///
+    /// ```
+    /// let mut ends = Vec::new(alloc);
+    /// for found in searcher.try_stream_find_iter(alloc, Bytes::new(b"a secret password"))? {
+    ///     ends.push(found?.end())?;
+    /// }
+    /// assert_eq!(rt; ends.as_slice(), [8, 17].as_slice());
+    /// ```
     pub fn try_stream_find_iter<R: Source + Drop, Z: Allocator>(
         &self,
         alloc: Z,

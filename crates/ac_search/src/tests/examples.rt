@@ -1,4 +1,4 @@
-//! The examples of doc comments: each block of them stands here, line by line (`scripts/check_readme`).
+//! The examples of doc comments that the README has not: each block stands here, line by line (`scripts/check_readme`).
 mod builders;
 mod engines;
 mod finds;
