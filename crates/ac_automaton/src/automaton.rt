@@ -279,7 +279,7 @@ pub trait Automaton {
     /// `InvalidInputAnchored` or `InvalidInputUnanchored` where the automaton has no start for the input's anchoring,
     /// else `UnsupportedOverlapping` where its match kind isn't `MatchKind::Standard`. The state is then as it was.
     ///
-    /// See the example of `AhoCorasick::try_find_overlapping`, which is called alike.
+    /// See the example of `AhoCorasick::find_overlapping`, which is called alike.
     #[inline]
     final fn try_find_overlapping(
         &self,
@@ -316,7 +316,7 @@ pub trait Automaton {
     }
 
     /// Returns the haystack with each match of `try_find_iter` over it replaced by the text of its pattern. A match
-    /// that starts or ends inside a character is left as it is; the walk isn't taken again without it. This ports
+    /// that starts or ends inside a character is left as it is, and nothing else is matched in its place. This ports
     /// `Automaton::try_replace_all`.
     ///
     /// There have to be as many texts as patterns.
@@ -368,7 +368,7 @@ pub trait Automaton {
     ///
     /// The closure is handed the match, the slice that matched and the destination, to which it appends what replaces
     /// the match. It returns whether to go on: after `false` it isn't called again, and the rest of the haystack is
-    /// appended as it is. It may be called with any match and destination. The law
+    /// appended as it is. It has to accept any match and destination. The law
     /// `ac_util::laws::text_closure_exchanges` says what is left by a closure that appends at each call.
     ///
     /// # Errors
@@ -446,8 +446,8 @@ pub trait Automaton {
     /// # Errors
     /// Those of `try_stream_find_iter`: then nothing was read or written. `Io` where a read or a write failed, and
     /// `TooLong` where more bytes came than a `usize` counts: what was written before that read stays written.
-    /// `WriteZero` where a write took no byte. Where a write failed or took nothing, a beginning of the replaced text
-    /// of what was read was written.
+    /// `WriteZero` where a write took no byte. Where a write failed or took nothing, a prefix of the replaced text as
+    /// far as the stream was settled was written.
     ///
     /// See the example of `AhoCorasick::try_stream_replace_all`, which is called alike.
     final fn try_stream_replace_all<R: Source, W: Sink, Z: Allocator>(
@@ -472,7 +472,7 @@ pub trait Automaton {
     /// `Automaton::try_stream_replace_all_with`.
     ///
     /// The closure is handed the match, with offsets in the whole stream, the slice that matched and the writer, to
-    /// which it writes what replaces the match. It may be called with any match and writer. All bytes before a match
+    /// which it writes what replaces the match. It has to accept any match and writer. All bytes before a match
     /// were written when the closure is called. Apart from that this does what `try_stream_replace_all` does.
     ///
     /// # Errors

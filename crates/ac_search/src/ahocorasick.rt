@@ -88,7 +88,7 @@ impl<A: Allocator> Clone for AhoCorasick<A> {
     /// Returns a searcher that shares this one's engine, so no automaton is copied.
     ///
     /// # Errors
-    /// `AllocError` where a request for memory is refused.
+    /// `AllocError` where there are more clones than a `usize` counts.
     fn clone(&self) -> Result<AhoCorasick<A>, AllocError> {
         let engine = self.engine.share()?;
         Ok(AhoCorasick::new_by(engine, self.start_kind))

@@ -16,7 +16,7 @@ use std::ops::Range;
 /// Which of the occurrences in a span a search returns. This ports `MatchKind`.
 ///
 /// In the haystack "abcd" a search for "b", "abc" and "abcd", listed in this order, returns "b" under `Standard`, "abc"
-/// under `LeftmostFirst`, and "abcd" under `LeftmostLongest`.
+/// under `LeftmostFirst`, and "abcd" under `LeftmostLongest`. Another list:
 ///
 /// ```
 /// let patterns: &[&[u8]] = &[b"Sam", b"Samwise"];

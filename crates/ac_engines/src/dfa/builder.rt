@@ -93,7 +93,7 @@ impl Builder {
         }
     }
 
-    /// Sets which of the occurrences in a span a search returns. `MatchKind::Standard` unless set. This ports
+    /// Sets which of the occurrences in a span a search returns. Default: `MatchKind::Standard`. This ports
     /// `Builder::match_kind`.
     pub fn match_kind(&mut self, kind: MatchKind) -> &mut Builder
         ensures value { result.now ≡ record self.old { engine = record self.old.engine { kind = kind } } }
@@ -103,7 +103,7 @@ impl Builder {
         self
     }
 
-    /// Sets whether searches ignore the case of ASCII letters, `a` to `z` and `A` to `Z`. They don't unless set. This
+    /// Sets whether searches ignore the case of ASCII letters, `a` to `z` and `A` to `Z`. Default: false. This
     /// ports `Builder::ascii_case_insensitive`.
     pub fn ascii_case_insensitive(&mut self, yes: bool) -> &mut Builder
         ensures value { result.now ≡ record self.old { engine = record self.old.engine { ignores_case = yes } } }
@@ -125,7 +125,7 @@ impl Builder {
         self
     }
 
-    /// Sets whether bytes that need not be distinguished share a class, so that rows are shorter. They do unless set.
+    /// Sets whether bytes that need not be distinguished share a class, so that rows are shorter. Default: true.
     /// It changes no answer. This ports `Builder::byte_classes`.
     pub fn byte_classes(&mut self, yes: bool) -> &mut Builder
         ensures value { result.now ≡ record self.old { byte_classes = yes } }
@@ -135,7 +135,7 @@ impl Builder {
         self
     }
 
-    /// Sets whether searches may skip ahead with a prefilter, where there is one for the patterns. They may unless set.
+    /// Sets whether searches may skip ahead with a prefilter, where there is one for the patterns. Default: true.
     /// It changes no answer. This ports `Builder::prefilter`.
     pub fn prefilter(&mut self, yes: bool) -> &mut Builder
         ensures value { result.now ≡ record self.old { engine = record self.old.engine { prefilter = yes } } }

@@ -80,7 +80,7 @@ impl AhoCorasickBuilder {
     /// Returns a builder with the usual settings: `MatchKind::Standard`, unanchored searches only, the case of letters
     /// counts, the engine is chosen, states of a contiguous NFA are dense below depth 2, bytes that need not be
     /// distinguished share a class, and there is a prefilter where the patterns have one. This ports
-    /// `AhoCorasickBuilder::new`. See the example of `AhoCorasickBuilder`.
+    /// `AhoCorasickBuilder::new`. See the example of `kind`.
     pub fn new() -> AhoCorasickBuilder
         ensures { result ≡ usual_settings }
     {
@@ -103,7 +103,7 @@ impl AhoCorasickBuilder {
         }
     }
 
-    /// Sets which of the occurrences in a span a search returns. `MatchKind::Standard` unless set.
+    /// Sets which of the occurrences in a span a search returns. Default: `MatchKind::Standard`.
     ///
     /// Overlapping searches need `MatchKind::Standard`; all other searches serve every match kind. This ports
     /// `AhoCorasickBuilder::match_kind`.
@@ -126,8 +126,8 @@ impl AhoCorasickBuilder {
         self
     }
 
-    /// Sets which searches the searcher supports: unanchored ones, anchored ones or both. `StartKind::Unanchored`
-    /// unless set.
+    /// Sets which searches the searcher supports: unanchored ones, anchored ones or both. Default:
+    /// `StartKind::Unanchored`.
     ///
     /// Any other search is refused, also where the engine could serve it. With `StartKind::Both` no DFA is chosen, and
     /// one that is named takes about twice the memory. This ports `AhoCorasickBuilder::start_kind`.
@@ -150,7 +150,7 @@ impl AhoCorasickBuilder {
         self
     }
 
-    /// Sets whether searches ignore the case of ASCII letters, `a` to `z` and `A` to `Z`. They don't unless set.
+    /// Sets whether searches ignore the case of ASCII letters, `a` to `z` and `A` to `Z`. Default: false.
     ///
     /// Letters beyond ASCII always differ by case. This ports `AhoCorasickBuilder::ascii_case_insensitive`.
     ///
@@ -172,7 +172,7 @@ impl AhoCorasickBuilder {
         self
     }
 
-    /// Names the engine, or with `None` lets `choose_kind` choose it. `None` unless set.
+    /// Names the engine, or with `None` lets `choose_kind` choose it. Default: `None`.
     ///
     /// It changes no answer. A named engine serves or the build is refused: `StateIdOverflow` where it would be too
     /// large. Without a name another engine serves then. This ports `AhoCorasickBuilder::kind`.
@@ -194,7 +194,7 @@ impl AhoCorasickBuilder {
         self
     }
 
-    /// Sets below which depth the states of a contiguous NFA are dense. 2 unless set. The other engines have no use for
+    /// Sets below which depth the states of a contiguous NFA are dense. Default: 2. The other engines have no use for
     /// it.
     ///
     /// The depth of a state is the length of its string in bytes. A dense state has a target for each class of bytes.
@@ -212,7 +212,7 @@ impl AhoCorasickBuilder {
     }
 
     /// Sets whether bytes that need not be distinguished share a class, so that a DFA or a contiguous NFA takes less
-    /// memory. They do unless set.
+    /// memory. Default: true.
     ///
     /// It changes no answer of a search. Where no engine was named, an engine may be too large without classes, and
     /// then another one serves. This ports `AhoCorasickBuilder::byte_classes`. See the example of `kind`.
@@ -224,7 +224,7 @@ impl AhoCorasickBuilder {
         self
     }
 
-    /// Sets whether searches may skip ahead with a prefilter, where there is one for the patterns. They may unless set.
+    /// Sets whether searches may skip ahead with a prefilter, where there is one for the patterns. Default: true.
     ///
     /// It changes no answer. This ports `AhoCorasickBuilder::prefilter`. See the example of `kind`.
     pub fn prefilter(&mut self, yes: bool) -> &mut AhoCorasickBuilder

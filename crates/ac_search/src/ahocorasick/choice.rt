@@ -14,7 +14,7 @@ pub enum AhoCorasickKind {
     NoncontiguousNFA,
     /// `nfa::contiguous::NFA`, which takes little memory.
     ContiguousNFA,
-    /// `dfa::DFA`, the fastest to search with, and the largest.
+    /// `dfa::DFA`, mostly the fastest to search with, and the largest.
     DFA,
 }
 

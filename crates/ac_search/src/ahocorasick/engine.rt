@@ -47,7 +47,7 @@ impl<A: Allocator> Engine<A> {
     /// Returns another handle to the same engine.
     ///
     /// # Errors
-    /// `AllocError` where a request for memory is refused.
+    /// `AllocError` where there are more handles than a `usize` counts.
     pub(super) fn share(&self) -> Result<Engine<A>, AllocError>
         ensures built { IfOk result (λ engine. built_of engine ≡ built_of self.now) }
         ensures wants_prefilter { IfOk result (λ engine. wants_prefilter_of engine ≡ wants_prefilter_of self.now) }

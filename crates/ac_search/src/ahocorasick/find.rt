@@ -45,8 +45,8 @@ impl<A: Allocator> AhoCorasick<A> {
     ///
     /// The searcher has to support the input's anchoring; `try_find` returns an error where it doesn't.
     /// `laws::answers_lie_inside` says that the match lies in the span, so that the haystack can be sliced by it, and
-    /// `laws::answers_cut_no_character` says the same of a text; `laws::pick_comes_first` says that nothing else can be
-    /// picked.
+    /// `laws::answers_cut_no_character` says so of a text and patterns that are texts, none of them empty;
+    /// `laws::pick_comes_first` says that nothing else can be picked.
     ///
     /// ```
     /// let patterns: &[&[u8]] = &[b"apple", b"maple", b"Snapple"];
@@ -71,7 +71,8 @@ impl<A: Allocator> AhoCorasick<A> {
     ///
     /// The searcher has to support the input's anchoring; `try_find_iter` returns an error where it doesn't.
     /// `laws::answers_lie_inside` says that all matches lie in the span, and how many there are at most, and
-    /// `laws::answers_cut_no_character` that those of a text can slice it: call one before a loop over the matches.
+    /// `laws::answers_cut_no_character` that they can slice a text, if the patterns are texts and none is empty: call
+    /// one before a loop over the matches.
     /// `laws::walk_is_in_order` says that they don't overlap.
     ///
     /// ```

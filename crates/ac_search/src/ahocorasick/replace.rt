@@ -14,7 +14,7 @@ impl<A: Allocator> AhoCorasick<A> {
     /// Returns the haystack with each match of `find_iter` over it replaced by the text of its pattern: `texts[2]`
     /// replaces pattern 2. This ports `AhoCorasick::replace_all`.
     ///
-    /// A match that starts or ends inside a character is left as it is; the walk isn't taken again without it. There
+    /// A match that starts or ends inside a character is left as it is, and nothing else is matched in its place. There
     /// have to be as many texts as patterns, and the searcher has to support unanchored searches; `try_replace_all`
     /// returns an error where it doesn't.
     ///
@@ -76,11 +76,12 @@ impl<A: Allocator> AhoCorasick<A> {
     /// the match. It returns whether to go on: after `false` it isn't called again, and the rest of the haystack is
     /// appended as it is.
     ///
-    /// The searcher has to support unanchored searches, and the closure may be called with any match and destination.
+    /// The searcher has to support unanchored searches, and the closure has to accept any match and destination.
     /// `laws::text_closure_exchanges` says what is left by a closure that appends at each call.
     ///
     /// # Errors
-    /// `AllocError` where a request for memory is refused. The destination is then as the steps before left it.
+    /// `AllocError` where a request of this call for memory is refused. The destination is then as the steps before
+    /// left it. A closure that lacks memory itself can only return `false`: the rest is then appended as it is.
     ///
     /// ```
     /// let searcher = AhoCorasick::new(alloc, &[b"append", b"app"])?;
@@ -190,7 +191,7 @@ impl<A: Allocator> AhoCorasick<A> {
     /// Does what `replace_all_with` does, or returns an error where the searcher doesn't support unanchored searches.
     /// This ports `AhoCorasick::try_replace_all_with`.
     ///
-    /// The closure may be called with any match and destination.
+    /// The closure has to accept any match and destination.
     ///
     /// # Errors
     /// As `try_replace_all`. Where the search is refused the destination is as it was; where memory is refused it is as
@@ -222,7 +223,7 @@ impl<A: Allocator> AhoCorasick<A> {
     /// Does what `replace_all_with_bytes` does, or returns an error where the searcher doesn't support unanchored
     /// searches. This ports `AhoCorasick::try_replace_all_with_bytes`.
     ///
-    /// The closure may be called with any match and destination.
+    /// The closure has to accept any match and destination.
     ///
     /// # Errors
     /// As `try_replace_all_with`.

@@ -23,8 +23,8 @@ impl<A: Allocator> AhoCorasick<A> {
     ///
     /// Offsets count bytes of the whole stream from 0; an end is one past the last byte. A match is returned once it is
     /// settled, which means that the search has seen that no byte to come can change it. Under `MatchKind::Standard`
-    /// that is when it is found. Under a leftmost kind the bytes after it settle it, at the latest one byte after no
-    /// byte to come can change it, or else the end of the stream does.
+    /// that is when it is found. Under a leftmost kind later bytes or the end of the stream settle it, at most one byte
+    /// late.
     ///
     /// Nothing is read before the first match is asked for. The allocator makes one buffer, which never grows. The
     /// searcher has to support unanchored searches, and no pattern may be empty; `try_stream_find_iter` returns an
@@ -122,7 +122,7 @@ impl<A: Allocator> AhoCorasick<A> {
     /// ports `AhoCorasick::try_stream_replace_all_with`.
     ///
     /// The closure is handed the match, with offsets in the whole stream, the slice that matched and the writer, to
-    /// which it writes what replaces the match. It may be called with any match and writer. All bytes before a match
+    /// which it writes what replaces the match. It has to accept any match and writer. All bytes before a match
     /// were written when the closure is called, so only the buffer for what is read is made. Apart from that this does
     /// what `try_stream_replace_all` does.
     ///

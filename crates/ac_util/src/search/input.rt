@@ -103,7 +103,7 @@ impl<'h> Input<'h> {
         self
     }
 
-    /// Returns the input with this anchoring. `Anchored::No` unless set. This ports `Input::anchored`.
+    /// Returns the input with this anchoring. Default: `Anchored::No`. This ports `Input::anchored`.
     ///
     /// ```
     /// let mut builder = AhoCorasick::builder();

@@ -71,7 +71,7 @@ impl Builder {
         Builder { ..*self }
     }
 
-    /// Sets which of the occurrences in a span a search returns. `MatchKind::Standard` unless set. This ports
+    /// Sets which of the occurrences in a span a search returns. Default: `MatchKind::Standard`. This ports
     /// `Builder::match_kind`.
     pub fn match_kind(&mut self, kind: MatchKind) -> &mut Builder
         ensures value { result.now ≡ record self.old { kind = kind } }
@@ -81,7 +81,7 @@ impl Builder {
         self
     }
 
-    /// Sets whether searches ignore the case of ASCII letters, `a` to `z` and `A` to `Z`. They don't unless set. This
+    /// Sets whether searches ignore the case of ASCII letters, `a` to `z` and `A` to `Z`. Default: false. This
     /// ports `Builder::ascii_case_insensitive`.
     pub fn ascii_case_insensitive(&mut self, yes: bool) -> &mut Builder
         ensures value { result.now ≡ record self.old { ignores_case = yes } }
@@ -91,7 +91,7 @@ impl Builder {
         self
     }
 
-    /// Sets whether searches may skip ahead with a prefilter, where there is one for the patterns. They may unless set.
+    /// Sets whether searches may skip ahead with a prefilter, where there is one for the patterns. Default: true.
     /// It changes no answer. This ports `Builder::prefilter`.
     pub fn prefilter(&mut self, yes: bool) -> &mut Builder
         ensures value { result.now ≡ record self.old { prefilter = yes } }

@@ -89,7 +89,7 @@ impl Builder {
         }
     }
 
-    /// Sets which of the occurrences in a span a search returns. `MatchKind::Standard` unless set. This ports
+    /// Sets which of the occurrences in a span a search returns. Default: `MatchKind::Standard`. This ports
     /// `Builder::match_kind`.
     pub fn match_kind(&mut self, kind: MatchKind) -> &mut Builder
         ensures value { result.now ≡ record self.old { engine = record self.old.engine { kind = kind } } }
@@ -99,7 +99,7 @@ impl Builder {
         self
     }
 
-    /// Sets whether searches ignore the case of ASCII letters, `a` to `z` and `A` to `Z`. They don't unless set. This
+    /// Sets whether searches ignore the case of ASCII letters, `a` to `z` and `A` to `Z`. Default: false. This
     /// ports `Builder::ascii_case_insensitive`.
     pub fn ascii_case_insensitive(&mut self, yes: bool) -> &mut Builder
         ensures value { result.now ≡ record self.old { engine = record self.old.engine { ignores_case = yes } } }
@@ -109,7 +109,7 @@ impl Builder {
         self
     }
 
-    /// Sets below which depth states are dense. 2 unless set. This ports `Builder::dense_depth`.
+    /// Sets below which depth states are dense. Default: 2. This ports `Builder::dense_depth`.
     ///
     /// The depth of a state is the length of its string in bytes. A dense state has a target for each class of bytes:
     /// it is faster, and larger. States of more than 127 transitions, the dead state and the starts are dense always.
@@ -122,8 +122,8 @@ impl Builder {
         self
     }
 
-    /// Sets whether bytes that need not be distinguished share a class, so that dense states are smaller. They do
-    /// unless set. It changes no answer. This ports `Builder::byte_classes`.
+    /// Sets whether bytes that need not be distinguished share a class, so that dense states are smaller.
+    /// Default: true. It changes no answer. This ports `Builder::byte_classes`.
     pub fn byte_classes(&mut self, yes: bool) -> &mut Builder
         ensures value { result.now ≡ record self.old { byte_classes = yes } }
         ensures same { result.ghost_name ≡ self.entry.ghost_name }
@@ -132,7 +132,7 @@ impl Builder {
         self
     }
 
-    /// Sets whether searches may skip ahead with a prefilter, where there is one for the patterns. They may unless set.
+    /// Sets whether searches may skip ahead with a prefilter, where there is one for the patterns. Default: true.
     /// It changes no answer. This ports `Builder::prefilter`.
     pub fn prefilter(&mut self, yes: bool) -> &mut Builder
         ensures value { result.now ≡ record self.old { engine = record self.old.engine { prefilter = yes } } }
