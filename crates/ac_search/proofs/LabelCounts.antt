@@ -34,5 +34,5 @@ module _ {patterns : ℕ} {counts : List ℕ} {ms : List Occurrence} (counted : 
       each = λ i e less.
           each-more i e less (m.pattern == i) refl
           ∙ (let each = counted.each i d less in
-              grind (arith, common_steps, sum_by-append (λ (n : Occurrence). cond (n.pattern == i) 1 0) ms (m ∷ [])));
+          grind (arith, common_steps, sum_by-append (λ (n : Occurrence). cond (n.pattern == i) 1 0) ms (m ∷ [])));
     }

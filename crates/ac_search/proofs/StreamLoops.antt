@@ -54,9 +54,11 @@ moved ends Open Open fine now later more reads = (fine, reads.moved)
 moved ends Open Ended fine now later more reads = ((λ is. grind (arith, common_steps)), reads.moved)
 moved ends Open Failed fine now later more reads = absurd reads
 moved ends Ended Open fine now later more reads = absurd reads
-moved ends Ended Ended fine now later more reads =
-    (fine, subst (λ (r : Reading). Consumes now.left r.left more) (sym reads.1)
-        (subst (Consumes now.left now.left) (sym reads.0) (Consumes-nil now.left)))
+moved ends Ended Ended fine now later more reads = (
+  fine,
+  subst (λ (r : Reading). Consumes now.left r.left more) (sym reads.1)
+      (subst (Consumes now.left now.left) (sym reads.0) (Consumes-nil now.left)),
+)
 moved ends Ended Failed fine now later more reads = absurd reads
 moved ends Failed next fine now later more reads = absurd (fine refl)
 

@@ -8,7 +8,7 @@ pub loop-item-init : goal.loop-item-init
 loop-item-init g c =
     let begun = c.finder_goes_on.ensures.begins _ (g.R.Source.told c.args.log.now) c.in_ok-finder.finder c.in_ok-finder.ensures.1 in
     let none = begun.1 in
-    record { underway = begun.0; counted = record { whole = search rules; each = λ i d less. grind (arith, common_steps); }; }
+    record { underway = begun.0; counted = record { whole = search rules; each = λ i d less. grind (arith, common_steps) } }
 
 pub index_mut-requires : goal.index_mut-requires
 index_mut-requires g c =
@@ -25,7 +25,7 @@ pub loop-item-preserved : goal.loop-item-preserved
 loop-item-preserved g c =
     let one = c.finder_goes_on.ensures.goes_on _ _ _ _ _ _ _ c.in-Ok.m c.loop-item.invariant.underway (rw c.in-Ok.is at c.in-Some.ensures) in
     let more = counts-more c.loop-item.invariant.counted c.in-Ok.m c.index_mut.result.now one.numbered in
-    record { underway = one.underway; counted = subst (CountsEach _ _) (sym one.one_more) (search (rules, more)); }
+    record { underway = one.underway; counted = subst (CountsEach _ _) (sym one.one_more) (search (rules, more)) }
 
 pub returns-in-Err-Io : goal.returns-in-Err-Io
 returns-in-Err-Io g c =
