@@ -1,11 +1,11 @@
 -- What a loop over the matches of a stream has seen, from one call to the next.
-use Rattle.std.proofs.Common.{◌≡◌, ◌≢◌, ℕ, suc, ◌+◌, ◌≤◌, Bool, List, [], ◌∷◌, ◌++◌, arith, refl, length, slice_get, Some, take, ap, subst, sym, ◌∙◌}
+use Rattle.std.proofs.Common.{◌≡◌, ◌≢◌, ℕ, suc, ◌+◌, ◌≤◌, Bool, true, List, [], ◌∷◌, ◌++◌, arith, refl, length, slice_get, Some, take, ap, subst, sym, ◌∙◌}
 use Rattle.std.proofs.KnownBytes.{Consumes-nil, Consumes-trans}
 use Rattle.std.proofs.Math.Seq.{take-append_seam, take-suc}
 use Rattle.std.proofs.lemmas.List.{length-take-le, take_all, take-take}
 use Rattle.std.proofs.lemmas.Grind.{common_steps}
 use Rattle.std.proofs.lemmas.Option.{get_or_from_slice_get, slice_get_within}
-use Rattle.std.specs.Io.KnownBytes.{Consumes}
+use Rattle.std.specs.Io.KnownBytes.{Consumes, IsAtEnd}
 use Rattle.ac_automaton.specs.Util.{Built, FailsToRead, IsSettledBy, LeftmostFirst, LeftmostLongest, LiesIn, MatchKind, Occurrence, Reading, Standard, stream_result, usize_max, whole_input}
 use Rattle.ac_util.specs.declared.error.StreamError.{StreamError}
 use Rattle.ac_util.proofs.GoesOn.{stream_result-begins}
@@ -47,34 +47,37 @@ module _ (built : Built) (bytes : List ℕ) where
   open-settled Ended is given place settled = grind (arith, common_steps)
   open-settled Failed is given place settled = settled
 
--- a read that a stream goes on by has moved its bytes, and no error was met
+-- a read that a stream goes on by has moved its bytes; no error was met, and nothing is left where the end was met
 moved : (ends : Bool) (phase next : Phase) → phase ≢ Failed → (now later : Reading) (more : List ℕ)
-    → GoesOnBy ends phase next now later more → (next ≢ Failed) × Consumes now.left later.left more
-moved ends Open Open fine now later more reads = (fine, reads.moved)
-moved ends Open Ended fine now later more reads = ((λ is. grind (arith, common_steps)), reads.moved)
-moved ends Open Failed fine now later more reads = absurd reads
-moved ends Ended Open fine now later more reads = absurd reads
-moved ends Ended Ended fine now later more reads = (
+    → (phase ≡ Ended → ends ≡ true → IsAtEnd now.left) → GoesOnBy ends phase next now later more
+    → (next ≢ Failed) × Consumes now.left later.left more × (next ≡ Ended → ends ≡ true → IsAtEnd later.left)
+moved ends Open Open fine now later more before reads = (fine, reads.moved, λ is. grind (arith, common_steps))
+moved ends Open Ended fine now later more before reads = ((λ is. grind (arith, common_steps)), reads.moved, λ is. reads.ended)
+moved ends Open Failed fine now later more before reads = absurd reads
+moved ends Ended Open fine now later more before reads = absurd reads
+moved ends Ended Ended fine now later more before reads = (
   fine,
   subst (λ (r : Reading). Consumes now.left r.left more) (sym reads.1)
       (subst (Consumes now.left now.left) (sym reads.0) (Consumes-nil now.left)),
+  λ is yes. subst (λ (r : Reading). IsAtEnd r.left) (sym reads.1) (before refl yes),
 )
-moved ends Ended Failed fine now later more reads = absurd reads
-moved ends Failed next fine now later more reads = absurd (fine refl)
+moved ends Ended Failed fine now later more before reads = absurd reads
+moved ends Failed next fine now later more before reads = absurd (fine refl)
 
 -- a search that begins is under way
-pub begins : (built : Built) → BeginsUnderway built
-begins built reader v begun = (
+pub begins : (ends : Bool) (built : Built) → BeginsUnderway ends built
+begins ends built reader v begun = (
   record {
     start = begun.0;
     built_is = ap (λ (u : Streaming). u.built) begun.1;
     goes_on = λ failed. grind (arith, common_steps);
+    ended = λ end. grind (arith, common_steps);
     read = subst (λ (u : Streaming). Consumes reader.left reader.left u.bytes) (sym begun.1) (Consumes-nil reader.left);
   },
   ap (λ (n : ℕ). take n (stream_result built v.bytes)) (ap (λ (u : Streaming). u.given) begun.1),
 )
 
-module _ {built : Built} {first now : Reading} {v : Streaming} (h : IsUnderway built first now v) where
+module _ {ends : Bool} {built : Built} {first now : Reading} {v : Streaming} (h : IsUnderway ends built first now v) where
   -- which starts are supported makes no difference to the matches
   same-matches : (bytes : List ℕ) → stream_result v.built bytes ≡ stream_result built bytes
   same-matches bytes = ap (λ (b : Built). stream_result b bytes) h.built_is
@@ -85,14 +88,15 @@ module _ {built : Built} {first now : Reading} {v : Streaming} (h : IsUnderway b
       ap (take v.given) (sym (same-matches bytes)) ∙ keeps ∙ ap (take v.given) (same-matches v.bytes)
 
   -- it is under way after a read
-  reads-on : (ends : Bool) {w : Streaming} {later : Reading} (more : List ℕ) → w.built ≡ v.built
-      → w.bytes ≡ v.bytes ++ more → GoesOnBy ends v.phase w.phase now later more → IsUnderway built first later w
-  reads-on ends {w} {later} more same bytes reads =
-      let on = moved ends v.phase w.phase h.goes_on now later more reads in
+  reads-on : {w : Streaming} {later : Reading} (more : List ℕ) → w.built ≡ v.built
+      → w.bytes ≡ v.bytes ++ more → GoesOnBy ends v.phase w.phase now later more → IsUnderway ends built first later w
+  reads-on {w} {later} more same bytes reads =
+      let on = moved ends v.phase w.phase h.goes_on now later more h.ended reads in
       record {
         start = h.start;
         built_is = same ∙ h.built_is;
         goes_on = on.0;
+        ended = on.2;
         read = subst (Consumes first.left later.left) (sym bytes)
             (Consumes-trans first.left now.left later.left v.bytes more h.read on.1);
       }
@@ -107,8 +111,8 @@ module _ {built : Built} {first now : Reading} {v : Streaming} (h : IsUnderway b
 
   module _ {w : Streaming} {later : Reading} where
     -- the next match is one more
-    pub goes-on : (ends : Bool) (m : Occurrence) → GivesNextMatch ends v m w now later → HasGivenOne built first later v w m
-    goes-on ends m gives =
+    pub goes-on : (m : Occurrence) → GivesNextMatch ends v m w now later → HasGivenOne ends built first later v w m
+    goes-on m gives =
         let bytes = v.bytes ++ gives.more in
         let ms = stream_result built bytes in
         let next : slice_get ms v.given ≡ Some m =
@@ -125,7 +129,7 @@ module _ {built : Built} {first now : Reading} {v : Streaming} (h : IsUnderway b
         let counted = gives.counted in
         let settling = gives.settled in
         record {
-          underway = reads-on ends gives.more built_is read gives.reads;
+          underway = reads-on gives.more built_is read gives.reads;
           one_more = now_given
               ∙ ap (λ (n : ℕ). take n ms) up
               ∙ take-suc ms v.given m within
@@ -140,21 +144,22 @@ module _ {built : Built} {first now : Reading} {v : Streaming} (h : IsUnderway b
         }
 
     -- there is none any more
-    ends-now : (ends : Bool) (phase : Phase) → phase ≢ Failed → GivesNone phase ends v w now later → EndsNow ends v w now later
-    ends-now ends Open fine none = none
-    ends-now ends Ended fine none = none
-    ends-now ends Failed fine none = absurd (fine refl)
+    ends-now : (phase : Phase) → phase ≢ Failed → GivesNone phase ends v w now later → EndsNow ends v w now later
+    ends-now Open fine none = none
+    ends-now Ended fine none = none
+    ends-now Failed fine none = absurd (fine refl)
 
-    pub given-all : (ends : Bool) → GivesNone v.phase ends v w now later → HasGivenAll built first later v w
-    given-all ends none =
-        let gives = ends-now ends v.phase h.goes_on none in
+    pub given-all : GivesNone v.phase ends v w now later → HasGivenAll ends built first later v w
+    given-all none =
+        let gives = ends-now v.phase h.goes_on none in
         let bytes = v.bytes ++ gives.more in
         let read : w.bytes ≡ bytes = ap (λ (u : Streaming). u.bytes) gives.same in
         let phase : w.phase ≡ Ended = ap (λ (u : Streaming). u.phase) gives.same in
         let all = gives.all ∙ ap length (same-matches bytes) in
         record {
-          underway = reads-on ends gives.more (ap (λ (u : Streaming). u.built) gives.same) read
+          underway = reads-on gives.more (ap (λ (u : Streaming). u.built) gives.same) read
               (subst (λ (p : Phase). GoesOnBy ends v.phase p now later gives.more) (sym phase) gives.reads);
+          end = phase;
           all = sym (still bytes gives.given)
               ∙ take_all v.given (stream_result built bytes) (omega arith)
               ∙ ap (stream_result built) (sym read);

@@ -181,16 +181,16 @@ pub fn iterators_end()
 {}
 
 /// What a loop over `StreamFinder::next` has seen. A search that begins is under way and has given no match. Each match that it
-/// gives is one more of those of the stream, and is never taken back. At `None` it has given all of them. At an error it has
+/// gives is one more of those of the stream, and is never taken back. At `None` it has met the end and given all of them. At an error it has
 /// given those of the bytes that came which no longer stream changes; under `MatchKind::Standard` these are all of them.
 ///
 /// Call this before such a loop. The loop's invariant is then that the search is under way (`IsUnderway`), and what the loop has
 /// made of the matches that were given (`given_matches`).
 pub fn finder_goes_on()
-    ensures begins { (built : Built) → BeginsUnderway built }
-    ensures goes_on { (built : Built) (ends : Bool) → MatchGoesOn built ends }
-    ensures ends { (built : Built) (ends : Bool) → NoneEnds built ends }
-    ensures failed { (built : Built) → ErrorLeavesSettled built }
+    ensures begins { (ends : Bool) (built : Built) → BeginsUnderway ends built }
+    ensures goes_on { (ends : Bool) (built : Built) → MatchGoesOn ends built }
+    ensures ends { (ends : Bool) (built : Built) → NoneEnds ends built }
+    ensures failed { (ends : Bool) (built : Built) → ErrorLeavesSettled ends built }
 {}
 
 /// Whichever starts are supported, a stream is settled up to the same offsets by the same matches.

@@ -5,10 +5,10 @@ pub returns-clause-begins : goal.returns-clause-begins
 returns-clause-begins c = begins
 
 pub returns-clause-goes_on : goal.returns-clause-goes_on
-returns-clause-goes_on c built meets first now later v w m underway gives = goes-on underway meets m gives
+returns-clause-goes_on c meets built first now later v w m underway gives = goes-on underway m gives
 
 pub returns-clause-ends : goal.returns-clause-ends
-returns-clause-ends c built meets first now later v w underway none = given-all underway meets none
+returns-clause-ends c meets built first now later v w underway none = given-all underway none
 
 pub returns-clause-failed : goal.returns-clause-failed
-returns-clause-failed c built first now later v w e underway gives = stops underway e gives
+returns-clause-failed c meets built first now later v w e underway gives = stops underway e gives

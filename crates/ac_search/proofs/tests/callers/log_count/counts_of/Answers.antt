@@ -6,7 +6,7 @@ use Rattle.ac_search.proofs.tests.callers.log_count.counts_of.Goals as goal
 
 pub loop-item-init : goal.loop-item-init
 loop-item-init g c =
-    let begun = c.finder_goes_on.ensures.begins _ (g.R.Source.told c.args.log.now) c.in_ok-finder.finder c.in_ok-finder.ensures.1 in
+    let begun = c.finder_goes_on.ensures.begins _ _ (g.R.Source.told c.args.log.now) c.in_ok-finder.finder c.in_ok-finder.ensures.1 in
     let none = begun.1 in
     record { underway = begun.0; counted = record { whole = search rules; each = λ i d less. grind (arith, common_steps) } }
 
@@ -29,7 +29,7 @@ loop-item-preserved g c =
 
 pub returns-in-Err-Io : goal.returns-in-Err-Io
 returns-in-Err-Io g c =
-    let stopped = c.finder_goes_on.ensures.failed _ _ _ _ _ _ c.in-Err-Io.field-0 c.loop-item.invariant.underway
+    let stopped = c.finder_goes_on.ensures.failed _ _ _ _ _ _ _ c.in-Err-Io.field-0 c.loop-item.invariant.underway
     (rw c.in-Err-Io.is at c.in-Some.ensures) in
     (_, stopped.read c.in-Err-Io.field-0-0 (search rules), subst (CountsEach _ _) (stopped.all c.requires) c.loop-item.invariant.counted)
 

@@ -7,7 +7,8 @@ use Rattle.ac_search.proofs.tests.callers.log_count.counts_of.Given as goal
 abbrev pub invariant-loop-item : goal.invariant-loop-item
 invariant-loop-item g l =
     record {
-      underway : IsUnderway l.searcher.built (g.R.Source.told l.fn.log) (g.R.Source.told l.log) l.finder;
+      underway : IsUnderway g.R.Source.empty_means_end l.searcher.built (g.R.Source.told l.fn.log) (g.R.Source.told l.log)
+          l.finder;
       counted : CountsEach (length l.searcher.built.patterns) l.matches.items (given_matches l.searcher.built l.finder);
     }
 
