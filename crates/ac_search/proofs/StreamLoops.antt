@@ -51,15 +51,17 @@ module _ (built : Built) (bytes : List ℕ) where
 moved : (ends : Bool) (phase next : Phase) → phase ≢ Failed → (now later : Reading) (more : List ℕ)
     → (phase ≡ Ended → ends ≡ true → IsAtEnd now.left) → GoesOnBy ends phase next now later more
     → (next ≢ Failed) × Consumes now.left later.left more × (next ≡ Ended → ends ≡ true → IsAtEnd later.left)
-moved ends Open Open fine now later more before reads = (fine, reads.moved, λ is. grind (arith, common_steps))
-moved ends Open Ended fine now later more before reads = ((λ is. grind (arith, common_steps)), reads.moved, λ is. reads.ended)
+    × (later.failed ≡ now.failed)
+moved ends Open Open fine now later more before reads = (fine, reads.moved, λ is. grind (arith, common_steps), reads.failed)
+moved ends Open Ended fine now later more before reads = ((λ is. grind (arith, common_steps)), reads.moved, (λ is. reads.ended), reads.failed)
 moved ends Open Failed fine now later more before reads = absurd reads
 moved ends Ended Open fine now later more before reads = absurd reads
 moved ends Ended Ended fine now later more before reads = (
   fine,
   subst (λ (r : Reading). Consumes now.left r.left more) (sym reads.1)
       (subst (Consumes now.left now.left) (sym reads.0) (Consumes-nil now.left)),
-  λ is yes. subst (λ (r : Reading). IsAtEnd r.left) (sym reads.1) (before refl yes),
+  (λ is yes. subst (λ (r : Reading). IsAtEnd r.left) (sym reads.1) (before refl yes)),
+  ap (λ (r : Reading). r.failed) reads.1,
 )
 moved ends Ended Failed fine now later more before reads = absurd reads
 moved ends Failed next fine now later more before reads = absurd (fine refl)
@@ -71,6 +73,7 @@ begins ends built reader v begun = (
     start = begun.0;
     built_is = ap (λ (u : Streaming). u.built) begun.1;
     goes_on = λ failed. grind (arith, common_steps);
+    failed = refl;
     ended = λ end. grind (arith, common_steps);
     read = subst (λ (u : Streaming). Consumes reader.left reader.left u.bytes) (sym begun.1) (Consumes-nil reader.left);
   },
@@ -96,6 +99,7 @@ module _ {ends : Bool} {built : Built} {first now : Reading} {v : Streaming} (h 
         start = h.start;
         built_is = same ∙ h.built_is;
         goes_on = on.0;
+        failed = on.3 ∙ h.failed;
         ended = on.2;
         read = subst (Consumes first.left later.left) (sym bytes)
             (Consumes-trans first.left now.left later.left v.bytes more h.read on.1);
@@ -174,9 +178,11 @@ module _ {ends : Bool} {built : Built} {first now : Reading} {v : Streaming} (h 
         let reads = gives.reads in
         record {
           read = λ cause is.
-              (let failed = subst (λ (x : StreamError). FailsToRead (length v.bytes) now later gives.more x) is reads in
-              subst (Consumes first.left later.left) (sym read)
-              (Consumes-trans first.left now.left later.left v.bytes gives.more h.read failed.moved));
+              (let fails = subst (λ (x : StreamError). FailsToRead (length v.bytes) now later gives.more x) is reads in (
+                subst (Consumes first.left later.left) (sym read)
+                    (Consumes-trans first.left now.left later.left v.bytes gives.more h.read fails.moved),
+                fails.failed ∙ ap (λ (n : ℕ). n + 1) h.failed,
+              ));
           same = ap (λ (n : ℕ). take n (stream_result built w.bytes)) given
               ∙ ap (λ (bs : List ℕ). take v.given (stream_result built bs)) read
               ∙ still bytes gives.given;

@@ -1,9 +1,10 @@
 -- What the callers in `src/tests/callers` are to do. No contract of the library cites these.
-use Rattle.std.specs.Prelude.{◌≡◌, ℕ, ◌+◌, ◌<◌, ◌==◌, Bool, false, true, List, [], ◌∷◌, ◌++◌, Option, None, Some, Result, count_by, filter_map, get_or, length, option_map, replicate, slice_range}
+use Rattle.std.specs.Prelude.{◌≡◌, ℕ, ◌+◌, ◌<◌, ◌==◌, Bool, MatchBool, false, true, List, [], ◌∷◌, ◌++◌, Option, None, Some, Result, count_by, filter_map, get_or, length, option_map, replicate, slice_range}
+use Rattle.std.specs.Io.KnownBytes.{Consumes, IsAtEnd}
 use Rattle.ac_util.specs.Built.{Built}
 use Rattle.ac_util.specs.Device.{Reading, Writing}
 use Rattle.ac_util.specs.Occurrence.{Occurrence, occurrence}
-use Rattle.ac_util.specs.Stream.{by_length}
+use Rattle.ac_util.specs.Stream.{by_length, stream_result}
 use Rattle.ac_util.specs.declared.search.MatchKind.TheVariants.{LeftmostLongest}
 use Rattle.ac_util.specs.declared.search.StartKind.TheVariants.{Unanchored}
 use Rattle.ac_search.specs.Alike.{WritesExchanged}
@@ -60,3 +61,11 @@ tokenizer_of words = record (redactor_of words) { ignores_case = false }
 pub record CountsEach (patterns : ℕ) (counts : List ℕ) (ms : List Occurrence) : Type 0 where
   pub whole : length counts ≡ patterns
   pub each : (i d : ℕ) → i < patterns → get_or counts i d ≡ count_by (λ m. m.pattern == i) ms
+
+-- a log was read to its end, or to a read that failed, and its matches up to there were counted
+pub record CountsLog (ends : Bool) (built : Built) (log new_log : Reading) (failed : Bool) (counts : List ℕ) : Type 0 where
+  pub bytes : List ℕ
+  pub read : Consumes log.left new_log.left bytes
+  pub counted : CountsEach (length built.patterns) counts (stream_result built bytes)
+  pub stopped : MatchBool failed (new_log.failed ≡ log.failed + 1)
+      ((new_log.failed ≡ log.failed) × (ends ≡ true → IsAtEnd new_log.left))

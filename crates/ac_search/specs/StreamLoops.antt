@@ -1,5 +1,5 @@
 -- What a loop over the matches of a stream has seen.
-use Rattle.std.specs.Prelude.{◌≡◌, ◌≢◌, ℕ, ◌<◌, ◌≤◌, Bool, false, true, List, [], ◌∷◌, ◌++◌, length, take}
+use Rattle.std.specs.Prelude.{◌≡◌, ◌≢◌, ℕ, ◌+◌, ◌<◌, ◌≤◌, Bool, false, true, List, [], ◌∷◌, ◌++◌, length, take}
 use Rattle.std.specs.Io.KnownBytes.{Consumes, IsAtEnd}
 use Rattle.std.specs.declared.io.Error.{Error}
 use Rattle.ac_util.specs.declared.error.StreamError.{StreamError}
@@ -13,13 +13,14 @@ use Rattle.ac_search.specs.Searchers.{HasBegun, starting_by}
 abbrev pub given_matches : Built → Streaming → List Occurrence
 given_matches built v = take v.given (stream_result built v.bytes)
 
--- a search for what was built has read its reader from `first` to `now`, and has met no error. Where `ends` is true, the reader
--- has nothing left once the end was met
+-- a search for what was built has read its reader from `first` to `now`, no read has failed, and no error was met. Where `ends` is
+-- true, the reader has nothing left once the end was met
 pub record IsUnderway (ends : Bool) (built : Built) (first now : Reading) (v : Streaming) : Type 0 where
   pub start : StartKind
   pub built_is : v.built ≡ starting_by built start
   pub goes_on : v.phase ≢ Failed
   pub read : Consumes first.left now.left v.bytes
+  pub failed : now.failed ≡ first.failed
   pub ended : v.phase ≡ Ended → ends ≡ true → IsAtEnd now.left
 
 -- so many matches of a stream stay its first ones, whatever bytes follow. No pattern is empty
@@ -44,7 +45,8 @@ pub record HasGivenAll (ends : Bool) (built : Built) (first now : Reading) (befo
 
 -- it has met an error, and has given those matches of what was read that stay; under Standard these are all of them
 pub record HasStoppedAt (built : Built) (first now : Reading) (before v : Streaming) (e : StreamError) : Type 0 where
-  pub read : (cause : Error) → e ≡ Io cause → Consumes first.left now.left v.bytes
+  pub read : (cause : Error) → e ≡ Io cause
+      → Consumes first.left now.left v.bytes × (now.failed ≡ first.failed + 1)
   pub same : given_matches built v ≡ given_matches built before
   pub stay : GivenStay built v.given v.bytes
   pub all : built.kind ≡ Standard → given_matches built before ≡ stream_result built v.bytes

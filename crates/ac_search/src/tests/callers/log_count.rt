@@ -1,8 +1,6 @@
 //! A caller that counts the matches of each pattern in a log, as far as it can be read.
-ghost use Rattle.std.specs.Prelude.{◌≡◌, IfOk, List, length, ℕ};
-ghost use Rattle.std.specs.Io.KnownBytes.{Consumes};
-ghost use Rattle.ac_search.specs.Callers.{CountsEach};
-ghost use Rattle.ac_search.specs.Stream.{stream_result};
+ghost use Rattle.std.specs.Prelude.{◌≡◌, IfOk};
+ghost use Rattle.ac_search.specs.Callers.{CountsLog};
 
 use crate::laws::finder_goes_on;
 use crate::tests::devices::{ALWAYS, Pieces};
@@ -26,9 +24,8 @@ fn counts_of<R: Source>(
     log: &mut R,
 ) -> Result<Counts, StreamError>
     requires { searcher.now.built.kind ≡ MatchKind.Standard }
-    ensures { IfOk result (λ counts. (bytes : List ℕ)
-        × Consumes (R.told log.old).left (R.told log.new).left bytes
-        × CountsEach (length searcher.now.built.patterns) counts.matches.items (stream_result searcher.now.built bytes)) }
+    ensures { IfOk result (λ counts. CountsLog R.empty_means_end searcher.now.built (R.told log.old) (R.told log.new)
+        counts.failed counts.matches.items) }
 {
     finder_goes_on();
     let mut finder = searcher.try_stream_finder(alloc)?;

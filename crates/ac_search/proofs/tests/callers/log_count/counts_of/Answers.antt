@@ -7,8 +7,7 @@ use Rattle.ac_search.proofs.tests.callers.log_count.counts_of.Goals as goal
 pub loop-item-init : goal.loop-item-init
 loop-item-init g c =
     let begun = c.finder_goes_on.ensures.begins _ _ (g.R.Source.told c.args.log.now) c.in_ok-finder.finder c.in_ok-finder.ensures.1 in
-    let none = begun.1 in
-    record { underway = begun.0; counted = record { whole = search rules; each = λ i d less. grind (arith, common_steps) } }
+    record { underway = begun.0; counted = record { whole = search rules; each = λ i d less. grind (arith, common_steps, begun.1) } }
 
 pub index_mut-requires : goal.index_mut-requires
 index_mut-requires g c =
@@ -31,9 +30,11 @@ pub returns-in-Err-Io : goal.returns-in-Err-Io
 returns-in-Err-Io g c =
     let stopped = c.finder_goes_on.ensures.failed _ _ _ _ _ _ _ c.in-Err-Io.field-0 c.loop-item.invariant.underway
     (rw c.in-Err-Io.is at c.in-Some.ensures) in
-    (_, stopped.read c.in-Err-Io.field-0-0 (search rules), subst (CountsEach _ _) (stopped.all c.requires) c.loop-item.invariant.counted)
+    let read = stopped.read c.in-Err-Io.field-0-0 (search rules) in
+    record { bytes = _; read = read.0; counted = subst (CountsEach _ _) (stopped.all c.requires) c.loop-item.invariant.counted; stopped = read.1 }
 
 pub returns : goal.returns
 returns g c =
     let all = c.finder_goes_on.ensures.ends _ _ _ _ _ _ _ c.loop-item.invariant.underway c.in_default.ensures in
-    (_, all.underway.read, subst (CountsEach _ _) all.all c.loop-item.invariant.counted)
+    let counted = subst (CountsEach _ _) all.all c.loop-item.invariant.counted in
+    record { bytes = _; read = all.underway.read; counted = counted; stopped = (all.underway.failed, all.underway.ended all.end) }
