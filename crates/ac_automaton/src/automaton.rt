@@ -67,6 +67,10 @@ pub use walk::FindIter;
 /// assert!(rt; nfa.is_start(start) && !nfa.is_dead(he));
 /// assert!(rt; nfa.is_match(he) && nfa.match_len(he) == 1);
 /// assert_eq!(rt; nfa.match_pattern(he, 0), PatternID::must(0));
+/// assert!(rt; nfa.is_match_or_dead(he) && nfa.is_special(start) && !nfa.is_special(h));
+/// let (state, index) = (he, 0);
+/// let taken = nfa.take_match(MatchRest { state, index });
+/// assert!(rt; taken.is_some_and(|(pattern, rest)| pattern.as_usize() == 0 && rest.index == 1));
 /// ```
 pub trait Automaton {
     /// The allocator of the automaton's memory.
@@ -108,7 +112,7 @@ pub trait Automaton {
         ensures { IsTrue result ↔ ((seen self.now).listed sid ≢ []) };
 
     /// Returns whether the state has matches or is dead. In any other state, also at the start, a search without a
-    /// prefilter reads on without a further test.
+    /// prefilter reads on without a further test. See the example of `Automaton`.
     #[inline]
     fn is_match_or_dead(&self, sid: StateID) -> bool
         requires state { IsAnyState (seen self.now) sid }
@@ -123,7 +127,7 @@ pub trait Automaton {
         ensures { Tells (seen self.now) sid result (λ u. u ≡ Some []) };
 
     /// Returns whether the state is dead, has matches or is a start. In any other state nothing is found, and nothing
-    /// begins or ends.
+    /// begins or ends. See the example of `Automaton`.
     #[inline]
     fn is_special(&self, sid: StateID) -> bool
         requires state { IsAnyState (seen self.now) sid }
@@ -147,17 +151,27 @@ pub trait Automaton {
         ensures { slice_get ((seen self.now).listed sid) index ≡ Some result };
 
     /// Returns the first match in a rest of a match list and the rest after it, or `None` if the rest is empty. So a
-    /// list is read in as many steps as it has matches.
+    /// list is read in as many steps as it has matches. See the example of `Automaton`.
     fn take_match(&self, rest: MatchRest) -> Option<(PatternID, MatchRest)>
         requires state { IsAnyState (seen self.now) rest.state }
         ensures taken { Takes (seen self.now).listed rest result }
         ensures state { KeepsAnchoring (seen self.now) rest result };
 
     /// Returns what every engine has, whatever its states are.
+    ///
+    /// ```
+    /// let nfa = noncontiguous::NFA::new(alloc, &[b"foo", b"bar", b"quux"])?;
+    /// assert_eq!(rt; nfa.match_kind(), nfa.common().match_kind());
+    /// assert_eq!(rt; nfa.pattern_len(PatternID::must(2)), 4);
+    /// assert_eq!(rt; nfa.patterns_len(), 3);
+    /// assert_eq!(rt; (nfa.min_pattern_len(), nfa.max_pattern_len()), (3, 4));
+    /// assert!(rt; nfa.prefilter().is_some() && nfa.memory_usage() > 0);
+    /// ```
     fn common(&self) -> &Common<Self::Memory>
         ensures { result.now ≡ common_of (seen self.now).built (seen self.now).wants_prefilter };
 
-    /// Returns the match kind, which decides which of the occurrences in a span a search returns.
+    /// Returns the match kind, which decides which of the occurrences in a span a search returns. See the example of
+    /// `common`.
     #[inline]
     final fn match_kind(&self) -> MatchKind
         ensures { result ≡ (seen self.now).built.kind }
@@ -165,7 +179,7 @@ pub trait Automaton {
         self.common().match_kind()
     }
 
-    /// Returns how many patterns there are.
+    /// Returns how many patterns there are. See the example of `common`.
     #[inline]
     final fn patterns_len(&self) -> usize
         ensures { result ≡ length (seen self.now).built.patterns }
@@ -173,7 +187,8 @@ pub trait Automaton {
         self.common().patterns().as_ref().len()
     }
 
-    /// Returns the length of a pattern in bytes. The pattern has to be one of the automaton's.
+    /// Returns the length of a pattern in bytes. The pattern has to be one of the automaton's. See the
+    /// example of `common`.
     #[inline]
     final fn pattern_len(&self, pattern: PatternID) -> usize
         requires numbered { pattern < length (seen self.now).built.patterns }
@@ -186,7 +201,8 @@ pub trait Automaton {
             .len()
     }
 
-    /// Returns the length of the shortest pattern in bytes, or `usize::MAX` if there are no patterns.
+    /// Returns the length of the shortest pattern in bytes, or `usize::MAX` if there are no patterns. See the example
+    /// of `common`.
     #[inline]
     final fn min_pattern_len(&self) -> usize
         ensures { result ≡ shortest_len (seen self.now).built.patterns }
@@ -194,7 +210,7 @@ pub trait Automaton {
         self.common().min_pattern_len()
     }
 
-    /// Returns the length of the longest pattern in bytes, or 0 if there are no patterns.
+    /// Returns the length of the longest pattern in bytes, or 0 if there are no patterns. See the example of `common`.
     #[inline]
     final fn max_pattern_len(&self) -> usize
         ensures { result ≡ longest_len (seen self.now).built.patterns }
@@ -203,7 +219,7 @@ pub trait Automaton {
     }
 
     /// Returns the prefilter, if the automaton was built to have one and there is one for its patterns. An unanchored
-    /// search may skip ahead with it, and returns what it would return without.
+    /// search may skip ahead with it, and returns what it would return without. See the example of `common`.
     #[inline]
     final fn prefilter(&self) -> Option<&Prefilter<Self::Memory>>
         ensures skips { option_map (λ p. skip_of p.now) result
@@ -214,6 +230,7 @@ pub trait Automaton {
     }
 
     /// Returns about how many bytes of memory the automaton takes. Nothing is promised about the number.
+    /// See the example of `common`.
     fn memory_usage(&self) -> usize;
 
     ghost one_or_two: { (LOOKS ≡ 1) ⊎ (LOOKS ≡ 2) };

@@ -16,17 +16,20 @@ use std::ops::Range;
 /// Which of the occurrences in a span a search returns. This ports `MatchKind`.
 ///
 /// In the haystack "abcd" a search for "b", "abc" and "abcd", listed in this order, returns "b" under `Standard`, "abc"
-/// under `LeftmostFirst`, and "abcd" under `LeftmostLongest`. Another list:
+/// under `LeftmostFirst`, and "abcd" under `LeftmostLongest`:
 ///
 /// ```
-/// let patterns: &[&[u8]] = &[b"Sam", b"Samwise"];
+/// let patterns: &[&[u8]] = &[b"b", b"abc", b"abcd"];
 /// let mut builder = AhoCorasick::builder();
 /// let standard = builder.build(alloc, patterns)?;
+/// builder.match_kind(MatchKind::LeftmostFirst);
+/// let first = builder.build(alloc, patterns)?;
 /// builder.match_kind(MatchKind::LeftmostLongest);
 /// let longest = builder.build(alloc, patterns)?;
-/// let input = Input::new(b"Samwise");
-/// assert_eq!(rt; standard.try_find(input)?, Some(Match::must(0, 0..3)));
-/// assert_eq!(rt; longest.try_find(input)?, Some(Match::must(1, 0..7)));
+/// let input = Input::new(b"abcd");
+/// assert_eq!(rt; standard.try_find(input)?, Some(Match::must(0, 1..2)));
+/// assert_eq!(rt; first.try_find(input)?, Some(Match::must(1, 0..3)));
+/// assert_eq!(rt; longest.try_find(input)?, Some(Match::must(2, 0..4)));
 /// ```
 #[derive(Clone, Copy, PartialEq, Eq, Default, Debug)]
 pub enum MatchKind {

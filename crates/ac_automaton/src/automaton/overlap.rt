@@ -26,8 +26,10 @@ use ac_util::search::{Anchored, Input, Match, MatchKind};
 /// assert_eq!(rt; state.get_match(), Some(Match::must(2, 0..3)));
 /// searcher.find_overlapping(input, &mut state);
 /// assert_eq!(rt; state.get_match(), Some(Match::must(0, 0..6)));
+/// let copy = state.clone();
 /// searcher.find_overlapping(input, &mut state);
 /// assert_eq!(rt; state.get_match(), None);
+/// assert_eq!(rt; copy.get_match(), Some(Match::must(0, 0..6)));
 /// ```
 #[derive(Debug, Drop)]
 pub struct OverlappingState {
@@ -57,7 +59,7 @@ impl OverlappingState {
         self.found
     }
 
-    /// Returns a state that has come as far.
+    /// Returns a state that has come as far. See the example of `OverlappingState`.
     pub fn clone(&self) -> OverlappingState
         ensures { result ≡ self.now }
     {

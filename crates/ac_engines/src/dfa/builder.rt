@@ -83,7 +83,7 @@ impl Builder {
         }
     }
 
-    /// Returns a builder with the same settings. It takes no memory.
+    /// Returns a builder with the same settings. It takes no memory. See the example of `noncontiguous::Builder`.
     pub fn clone(&self) -> Builder
         ensures { result ≡ self.now }
     {
@@ -165,6 +165,7 @@ impl Builder {
     }
 
     /// Returns whether a DFA that is built from this automaton would be within its limit. It takes no memory.
+    /// See the example of `build_from_noncontiguous`.
     pub fn fits<A: Allocator>(&self, nfa: &NFA<A>) -> bool
         ensures { result ≡ fits (dfa_refusal self.now.start_kind self.now.byte_classes nfa.now.built) }
     {
@@ -179,6 +180,15 @@ impl Builder {
     /// # Errors
     /// `StateIdOverflow` exactly where the last row of the transition table would begin at a number that no state may
     /// have, whether there is memory or not; else `Memory` where a request for memory is refused.
+    ///
+    /// ```
+    /// let nfa = noncontiguous::NFA::new(alloc, &[b"he", b"she"])?;
+    /// let builder = dfa::Builder::new();
+    /// assert!(rt; builder.fits(&nfa));
+    /// let dfa = builder.build_from_noncontiguous(alloc, &nfa)?;
+    /// let found = dfa.try_find(Input::new(b"ushers"))?;
+    /// assert_eq!(rt; found, Some(Match::must(1, 1..4)));
+    /// ```
     pub fn build_from_noncontiguous<A: Allocator + Clone>(
         &self,
         alloc: A,

@@ -93,7 +93,7 @@ impl AhoCorasickBuilder {
         }
     }
 
-    /// Returns a builder with the same settings. It takes no memory.
+    /// Returns a builder with the same settings. It takes no memory. See the example of `kind`.
     pub fn clone(&self) -> AhoCorasickBuilder
         ensures { result ≡ self.now }
     {
@@ -181,7 +181,8 @@ impl AhoCorasickBuilder {
     /// let mut builder = AhoCorasickBuilder::new();
     /// builder.kind(Some(AhoCorasickKind::ContiguousNFA));
     /// builder.dense_depth(0).byte_classes(false).prefilter(false);
-    /// let searcher = builder.build(alloc, &[b"foo", b"bar"])?;
+    /// let copy = builder.clone();
+    /// let searcher = copy.build(alloc, &[b"foo", b"bar"])?;
     /// assert_eq!(rt; searcher.kind(), AhoCorasickKind::ContiguousNFA);
     /// let found = searcher.try_find(Input::new(b"xx bar"))?;
     /// assert_eq!(rt; found, Some(Match::must(1, 3..6))); // as with any engine

@@ -1,10 +1,8 @@
 //! The examples of doc comments that the README has not: each block stands here, line by line (`scripts/check_readme`).
 mod builders;
-mod engines;
 mod finds;
 mod first;
 mod inputs;
 mod overlaps;
 mod replacements;
-mod sizes;
 mod streams;

@@ -44,7 +44,7 @@ impl<'a> Source for Bytes<'a> {
 
     ghost empty_means_end = { true };
 
-    // Never fails, and gives all bytes that are left, or as many as fit.
+    /// Never fails, and gives all bytes that are left, or as many as fit.
     fn read_some(&mut self, into: &mut [u8]) -> io::Result<usize>
         ensures reads { Reads true self.old self.new result into.new }
         ensures full { GivesAll self.old.left result into.old }
@@ -93,7 +93,7 @@ impl<A: Allocator> Written<A> {
 impl<A: Allocator> Sink for Written<A> {
     ghost told = { λ w. w };
 
-    // Fails only where a request for memory is refused, and else takes all.
+    /// Fails only where a request for memory is refused, and else takes all.
     fn write_some(&mut self, piece: &[u8]) -> io::Result<usize>
         ensures writes { Writes self.old self.new result piece.now }
         ensures whole { IfOk result (λ n. n ≡ length piece.now) }

@@ -22,7 +22,8 @@ use std::marker::Model;
 /// let mut builder = noncontiguous::Builder::new();
 /// builder.match_kind(MatchKind::LeftmostFirst);
 /// builder.ascii_case_insensitive(true).prefilter(false);
-/// let nfa = builder.build(alloc, &[b"Sam", b"Samwise"])?;
+/// let copy = builder.clone();
+/// let nfa = copy.build(alloc, &[b"Sam", b"Samwise"])?;
 /// let found = nfa.try_find(Input::new(b"SAMWISE"))?;
 /// assert_eq!(rt; found, Some(Match::must(0, 0..3)));
 /// ```
@@ -64,7 +65,7 @@ impl Builder {
         }
     }
 
-    /// Returns a builder with the same settings. It takes no memory.
+    /// Returns a builder with the same settings. It takes no memory. See the example of `Builder`.
     pub fn clone(&self) -> Builder
         ensures { result ≡ self.now }
     {

@@ -79,7 +79,7 @@ impl Builder {
         }
     }
 
-    /// Returns a builder with the same settings. It takes no memory.
+    /// Returns a builder with the same settings. It takes no memory. See the example of `noncontiguous::Builder`.
     pub fn clone(&self) -> Builder
         ensures { result ≡ self.now }
     {
@@ -162,7 +162,7 @@ impl Builder {
     }
 
     /// Returns whether a contiguous NFA that is built from this automaton would be within its limit. It takes no
-    /// memory.
+    /// memory. See the example of `build_from_noncontiguous`.
     pub fn fits<A: Allocator>(&self, nfa: &noncontiguous::NFA<A>) -> bool
         ensures { result ≡ fits (contiguous_refusal self.now.dense_depth self.now.byte_classes nfa.now.built) }
     {
@@ -178,6 +178,15 @@ impl Builder {
     /// # Errors
     /// `StateIdOverflow` exactly where there would be more words than the greatest number of a state, whether there is
     /// memory or not; else `Memory` where a request for memory is refused.
+    ///
+    /// ```
+    /// let nfa = noncontiguous::NFA::new(alloc, &[b"he", b"she"])?;
+    /// let builder = contiguous::Builder::new();
+    /// assert!(rt; builder.fits(&nfa));
+    /// let nfa = builder.build_from_noncontiguous(alloc, &nfa)?;
+    /// let found = nfa.try_find(Input::new(b"ushers"))?;
+    /// assert_eq!(rt; found, Some(Match::must(1, 1..4)));
+    /// ```
     pub fn build_from_noncontiguous<A: Allocator + Clone>(
         &self,
         alloc: A,

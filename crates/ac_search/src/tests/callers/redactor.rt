@@ -4,6 +4,8 @@ ghost use Rattle.ac_search.specs.Callers.{Redacts, redactor_of, stars};
 ghost use Rattle.ac_search.specs.Device.{WritesAll, WritesBeginning};
 ghost use Rattle.ac_search.specs.Patterns.{bytes_of};
 
+mod program;
+
 use crate::laws::{closures_write_exchanged, lists_write_exchanged, pieces_join};
 use crate::tests::devices::{ALWAYS, Few, Pieces};
 use crate::tests::same;

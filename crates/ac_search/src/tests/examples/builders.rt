@@ -1,5 +1,7 @@
 //! The builder of a searcher.
-use crate::{AhoCorasickBuilder, AhoCorasickKind, Anchored, Input, Match, MatchError, StartKind};
+use crate::{
+    AhoCorasickBuilder, AhoCorasickKind, Anchored, Input, Match, MatchError, StartKind, choose_kind,
+};
 use std::test::Fail;
 
 #[test]
@@ -22,10 +24,21 @@ fn settings_of_engines(rt: HostRuntime) -> Result<(), Fail> {
     let mut builder = AhoCorasickBuilder::new();
     builder.kind(Some(AhoCorasickKind::ContiguousNFA));
     builder.dense_depth(0).byte_classes(false).prefilter(false);
-    let searcher = builder.build(alloc, &[b"foo", b"bar"])?;
+    let copy = builder.clone();
+    let searcher = copy.build(alloc, &[b"foo", b"bar"])?;
     assert_eq!(rt; searcher.kind(), AhoCorasickKind::ContiguousNFA);
     let found = searcher.try_find(Input::new(b"xx bar"))?;
     assert_eq!(rt; found, Some(Match::must(1, 3..6))); // as with any engine
 
     Ok(())
+}
+
+#[test]
+fn choices(rt: HostRuntime) {
+    let few = choose_kind(3, StartKind::Unanchored, true, true);
+    assert_eq!(rt; few, AhoCorasickKind::DFA);
+    let both = choose_kind(3, StartKind::Both, true, true);
+    assert_eq!(rt; both, AhoCorasickKind::ContiguousNFA);
+    let large = choose_kind(101, StartKind::Unanchored, true, false);
+    assert_eq!(rt; large, AhoCorasickKind::NoncontiguousNFA);
 }

@@ -11,8 +11,10 @@ fn states_move_on(rt: HostRuntime) -> Result<(), Fail> {
     assert_eq!(rt; state.get_match(), Some(Match::must(2, 0..3)));
     searcher.find_overlapping(input, &mut state);
     assert_eq!(rt; state.get_match(), Some(Match::must(0, 0..6)));
+    let copy = state.clone();
     searcher.find_overlapping(input, &mut state);
     assert_eq!(rt; state.get_match(), None);
+    assert_eq!(rt; copy.get_match(), Some(Match::must(0, 0..6)));
     Ok(())
 }
 
