@@ -1,4 +1,5 @@
-//! The examples of doc comments that the README has not: each block stands here, line by line (`scripts/check_readme`).
+//! The examples of doc comments that the README has not, if they need a searcher: each block stands here, line by line
+//! (`scripts/check_readme`).
 mod builders;
 mod finds;
 mod first;
