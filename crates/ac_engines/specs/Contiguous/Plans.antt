@@ -2,7 +2,7 @@
 use Rattle.std.specs.Prelude.{◌≡◌, ℕ, zero, suc, ◌+◌, ◌<◌, ◌≤◌, nat_lt, Bool, true, false, List, length, slice_get, slice_index_or, Option, Some, None, if◌then◌else◌}
 use Rattle.ac_automaton.specs.Util.{alphabet_len, AreClasses, GREATEST, longest_len, No, Node, SetsApart}
 use Rattle.ac_automaton.specs.declared.nfa.noncontiguous.state.TheConstants.{ANCHORED_START, START}
-use Rattle.ac_automaton.specs.Prelude.{AreNodes, matches_of, Trie}
+use Rattle.ac_automaton.specs.Prelude.{AreNodes, ForNode, matches_of, Trie}
 use Rattle.ac_engines.specs.Dfa.Filling.{first_row_in}
 use Rattle.ac_engines.specs.Contiguous.{ContiguousView, Places}
 use Rattle.ac_engines.specs.Contiguous.Words.{node_format, node_words, packed_words}
@@ -101,6 +101,10 @@ match_len_of q u = length (matches_of q.trie.built No u)
 
 abbrev pub format_for : PackPlan → Node → Format
 format_for q u = node_format q.trie.built q.dense_depth u
+
+-- a state has so many matches
+abbrev pub HasMatchLen : PackPlan → ℕ → ℕ → Type 0
+HasMatchLen q s matches = ForNode (MayPack q) s (λ nodes u. matches ≡ match_len_of q u)
 
 -- up to this place those stand that have matches
 abbrev pub IsFrontEnd : PackPlan → ℕ → Type 0

@@ -119,7 +119,7 @@ impl<'a, A: Allocator> Packer<'a, A> {
         };
         push_state(
             &mut buffers.words,
-            plan.format(sid),
+            plan.format(sid, buffers.matches.len()),
             plan.classes.alphabet_len(),
             state_fields,
         )

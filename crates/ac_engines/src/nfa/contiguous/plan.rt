@@ -2,7 +2,7 @@
 ghost use Rattle.std.specs.Prelude.{◌≡◌, ◌+◌, ◌≤◌, ◌∷◌, IfOk, List, [], length};
 ghost use Rattle.ac_automaton.specs.Prelude.{ForNode};
 ghost use Rattle.ac_automaton.specs.Util.{alphabet_len, AreClasses, GREATEST, Node, SetsApart};
-ghost use Rattle.ac_engines.specs.Contiguous.Plans.{ArePlaces, HasWords, IsFrontEnd, MayPack, all_words, format_for, has_matches, match_len_of, size_of};
+ghost use Rattle.ac_engines.specs.Contiguous.Plans.{ArePlaces, HasMatchLen, HasWords, IsFrontEnd, MayPack, all_words, format_for, has_matches, size_of};
 
 use super::format::{Format, format_of, state_words};
 use ac_automaton::automaton::Automaton;
@@ -65,7 +65,7 @@ impl<'a, A: Allocator> Plan<'a, A> {
     /// Returns how many matches a state has.
     fn match_len(&self, sid: StateID) -> usize
         requires state { HasWords self.now sid }
-        ensures value { ForNode (MayPack self.now) sid (λ nodes u. result ≡ match_len_of self.now u) }
+        ensures value { HasMatchLen self.now sid result }
         ensures few { result ≤ GREATEST + 1 }
     {
         if self.nfa.is_match(sid) {
@@ -75,9 +75,10 @@ impl<'a, A: Allocator> Plan<'a, A> {
         }
     }
 
-    /// Returns the form of a state.
-    pub(super) fn format(&self, sid: StateID) -> Format
+    /// Returns the form of a state that has so many matches.
+    pub(super) fn format(&self, sid: StateID, matches: usize) -> Format
         requires state { HasWords self.now sid }
+        requires matches { HasMatchLen self.now sid matches }
         ensures { ForNode (MayPack self.now) sid (λ nodes u. result ≡ format_for self.now u) }
     {
         if sid.as_usize() < FIRST_INNER {
@@ -87,7 +88,7 @@ impl<'a, A: Allocator> Plan<'a, A> {
             self.nfa.depth(sid),
             self.dense_depth,
             self.nfa.own_len(sid),
-            self.match_len(sid),
+            matches,
         )
     }
 
@@ -97,11 +98,12 @@ impl<'a, A: Allocator> Plan<'a, A> {
         ensures value { ForNode (MayPack self.now) sid (λ nodes u. result ≡ size_of self.now nodes u) }
         ensures small { result ≤ GREATEST + 260 }
     {
+        let matches = self.match_len(sid);
         state_words(
-            self.format(sid),
+            self.format(sid, matches),
             self.classes.alphabet_len() as u64,
             self.nfa.own_len(sid) as u64,
-            self.match_len(sid) as u64,
+            matches as u64,
         )
     }
 

@@ -17,7 +17,7 @@ returns g c nodes u may named =
     let deep = c.depth.ensures nodes u are named in
     let own = c.own_len.ensures.value nodes u are named
     ∙ ap (λ (t : Trie). length (transition_bytes_of t.built u)) trie in
-    let matches = c.match_len.ensures.value nodes u may named in
+    let matches = c.requires.matches nodes u may named in
     let inner_is : format_of (depth u) q.dense_depth (length (transition_bytes_of q.trie.built u)) _
     ≡ node_format q.trie.built q.dense_depth u = rw long.node refl in
     c.format_of.ensures ∙ (λ i. format_of (deep i) (dense i) (own i) (matches i)) ∙ inner_is

@@ -23,7 +23,7 @@ returns-clause-value g c nodes u may named =
     let classes = c.alphabet_len.ensures.value ∙ ap (λ (p : PackPlan). alphabet_len p.classes) c.self.view_is in
     let own = c.own_len.ensures.value nodes u are named
     ∙ ap (λ (t : Trie). length (transition_bytes_of t.built u)) trie in
-    let matches = c.match_len.ensures.value nodes u may named in
+    let matches = c.match_len-matches.ensures.value nodes u may named in
     c.state_words.ensures ∙ (λ i. words_of_state (format i) (classes i) (own i) (matches i))
 
 -- beside its matches a state takes few words
@@ -32,8 +32,8 @@ returns-clause-small g c =
     let has = c.requires.state in
     let q = c.args.self.now in
     let words = returns-clause-value g c has.nodes has.node has.may has.named in
-    let matches = c.match_len.ensures.value has.nodes has.node has.may has.named in
+    let matches = c.match_len-matches.ensures.value has.nodes has.node has.may has.named in
     let classes = c.alphabet_len.ensures.value ∙ ap (λ (p : PackPlan). alphabet_len p.classes) c.self.view_is in
     let most = node_words-most q.trie.built q.dense_depth (alphabet_len q.classes) has.node
     (omega (arith, classes, c.alphabet_len.ensures.few)) in
-    omega (arith, words, matches, most, c.match_len.ensures.few)
+    omega (arith, words, matches, most, c.match_len-matches.ensures.few)
