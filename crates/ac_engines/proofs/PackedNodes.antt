@@ -1,5 +1,5 @@
 -- What the states of a trie spell.
-use Rattle.std.proofs.Common.{◌≡◌, ◌≢◌, inl, inr, ℕ, zero, suc, ◌+◌, ◌-◌, ◌<◌, ◌≤◌, List, [], ◌∷◌, ◌++◌, length, map, slice_index_or, take, refl, ap, sym, ◌∙◌, arith, Some, None, option_map, ◌&&◌, slice_get, if◌then◌else◌, rules}
+use Rattle.std.proofs.Common.{◌≡◌, ◌≢◌, inl, inr, ℕ, zero, suc, ◌+◌, ◌-◌, ◌<◌, ◌≤◌, List, [], ◌∷◌, ◌++◌, length, map, slice_index_or, take, refl, ap, subst, sym, ◌∙◌, arith, Some, None, option_map, ◌&&◌, slice_get, if◌then◌else◌, rules}
 use Rattle.std.specs.List.{All, range_with_len}
 use Rattle.std.specs.List.Sorted.{IsStrictlyIncreasing}
 use Rattle.std.proofs.lemmas.Bool.{cases_lt}
@@ -13,8 +13,7 @@ use Rattle.ac_util.proofs.ClassLemmas.{stands-from_node}
 use Rattle.ac_util.proofs.ClassLists.{alphabet_len-few, class_at-below}
 use Rattle.ac_util.proofs.Lists.{AllPairs-from_IsOrdered, All-from_IsIn, Contains-from_IsIn, IsIn, IsOrdered, IsOrdered-filter, IsOrdered-map, IsOrdered-range}
 use Rattle.ac_automaton.specs.Prelude.{AreNodes, IsOwn, leads_on, matches_of, transition_bytes_of, plain_of, Trie}
-use Rattle.ac_automaton.proofs.Places.{take-next}
-use Rattle.ac_engines.specs.Prelude.{anchored_of, AreReady, ContiguousView, Edge, edges_of, FAIL, Format, format_of, MayPack, node_format, number_at, ONE_MATCH, packed_of, Packer, PackPlan, Places, places_of, format_words, PackedState, packed_at, packed_state}
+use Rattle.ac_engines.specs.Prelude.{anchored_of, AreReady, ContiguousView, Edge, edges_of, FAIL, Format, format_of, MayPack, node_format, number_at, One, ONE_MATCH, one_words, packed_of, Packer, PackPlan, Places, places_of, format_words, PackedState, packed_at, packed_state, state_words}
 use Rattle.ac_engines.specs.Contiguous.Words.{Fits}
 use Rattle.ac_engines.proofs.Filled.{transition_bytes_of-only, transition_bytes_of-small}
 use Rattle.ac_engines.proofs.MatchCounts.{matches-few, matches-numbered}
@@ -124,22 +123,21 @@ module _ (f : Packer) (nodes : List Node) (h : AreReady f nodes) where
   edges-count s None reached named = search (rules, string-of f.plan.trie nodes h.may.are_nodes s None reached named)
   edges-count s (Some w) reached named = search (rules, edges-format_words, length-map)
 
-  -- the next own transition is the next of those that are spelled
-  pub edges-next : (s index byte next : ℕ) (u : Node) → 2 ≤ s → slice_get nodes s ≡ Some u
+  -- an own transition is spelled at its place
+  pub edge-at : (s index byte next : ℕ) (u : Node) → 2 ≤ s → slice_get nodes s ≡ Some u
       → ((w : List ℕ) → slice_get nodes s ≡ Some (Some w) → IsOwn f.plan.trie nodes w index byte next)
-      → take (index + 1) (packed_state f nodes s u).edges ≡ take index (packed_state f nodes s u).edges
-      ++ record { class = class_at f.plan.classes byte; target = slice_index_or f.numbers next 0 } ∷ []
-  edges-next s index byte next None reached named own =
+      → slice_get (packed_state f nodes s u).edges index
+      ≡ Some (record { class = class_at f.plan.classes byte; target = slice_index_or f.numbers next 0 })
+  edge-at s index byte next None reached named own =
       let string = (string-of f.plan.trie nodes h.may.are_nodes s None reached named).is in absurd cc
-  edges-next s index byte next (Some w) reached named own =
+  edge-at s index byte next (Some w) reached named own =
       let is = own w named in
       let p = packed_of f.plan nodes f.numbers [] in
       let at = places_of f.plan nodes f.numbers in
       let place = place-inner f.plan.trie nodes h.may.are_nodes f.numbers next
       (w ++ plain_byte f.plan.trie.built.ignores_case byte ∷ []) h.places.count (own-inner w index byte next is) is.leads in
       rw (edges-format_words p at (anchored_of s) w, sym place)
-      (take-next (edges_of p at w) index (edge_by p at w byte)
-      (slice_get-map (edge_by p at w) (transition_bytes_of f.plan.trie.built (Some w)) index ∙ ap (option_map (edge_by p at w)) is.place))
+      (slice_get-map (edge_by p at w) (transition_bytes_of f.plan.trie.built (Some w)) index ∙ ap (option_map (edge_by p at w)) is.place)
 
 module _ (s : PackedState) (default_target : s.default_target ≡ FAIL) where
   -- and that of any other
@@ -242,6 +240,32 @@ state-spells f nodes h s None reached named =
     let string = (string-of f.plan.trie nodes h.may.are_nodes s None reached named).is in absurd cc
 state-spells f nodes h s (Some w) reached named =
     search (rules, alphabet_len-few, edges-ascend, edges-below, edges-format_words, matches-below, matches-small, matches-format_words, string-fits)
+
+-- the only transition is the first one
+pub only-edge : (edges : List Edge) (e : Edge) → length edges ≡ 1 → slice_get edges 0 ≡ Some e → edges ≡ e ∷ []
+only-edge [] e one at = absurd (omega arith)
+only-edge (x ∷ []) e one at = grind (arith, common_steps)
+only-edge (x ∷ y ∷ xs) e one at = absurd (omega arith)
+
+-- so these are the words of a state with one transition
+one-spelled : (format : Format) (classes failure : ℕ) (s : PackedState) (e : Edge) → One ≡ format → failure ≡ s.failure
+    → s.edges ≡ e ∷ [] → one_words failure (e ∷ []) ≡ format_words format classes s
+unfolding format_words
+one-spelled format classes failure s e one fails edges = rw (sym one, edges, fails) refl
+
+module _ (f : Packer) (nodes : List Node) (h : AreReady f nodes) (s : ℕ) (u : Node) (reached : 2 ≤ s)
+    (named : slice_get nodes s ≡ Some u) (one : One ≡ node_format f.plan.trie.built f.plan.dense_depth u) where
+  -- a state in the form for one transition has one
+  pub one-edge : length (packed_state f nodes s u).edges ≡ 1
+  one-edge =
+      (subst (λ format. Fits format (packed_state f nodes s u)) (sym one) (state-spells f nodes h s u reached named).fits).0
+
+  -- and spells it
+  pub spells-one : (failure : ℕ) (e : Edge) → failure ≡ (packed_state f nodes s u).failure
+      → slice_get (packed_state f nodes s u).edges 0 ≡ Some e → one_words failure (e ∷ []) ≡ state_words f nodes s u
+  spells-one failure e fails at =
+      one-spelled (node_format f.plan.trie.built f.plan.dense_depth u) (alphabet_len f.plan.classes) failure
+      (packed_state f nodes s u) e one fails (only-edge (packed_state f nodes s u).edges e one-edge at)
 
 -- the words of a state are given by the parts of what it spells
 pub format_words-by_parts : (format new_format : Format) (classes new_classes : ℕ) (s t : PackedState) → format ≡ new_format

@@ -73,9 +73,13 @@ IsPacked f nodes words =
 abbrev pub ForPacked : Packer → ℕ → (PackedState → Type 0) → Type 0
 ForPacked f s P = ForNode (AreReady f) s (λ nodes u. P (packed_state f nodes s u))
 
--- where the words of a state succeed in being pushed, they were
+-- where the words of a state succeed in being appended, they were
+abbrev pub AppendsWordsOf : Packer → ℕ → List ℕ → List ℕ → Result (Unit {0}) AllocError → Type 0
+AppendsWordsOf f s old new result = ForNode (AreReady f) s (λ nodes u. Appends old new (state_words f nodes s u) result)
+
+-- where they succeed in being pushed, they were
 abbrev pub PushesWordsOf : {Z : Type 0} → Packer → ℕ → Buffers Z → Buffers Z → Result (Unit {0}) AllocError → Type 0
-PushesWordsOf f s old new result = ForNode (AreReady f) s (λ nodes u. Pushes old new (state_words f nodes s u) result)
+PushesWordsOf f s old new result = AppendsWordsOf f s old.words.items new.words.items result
 
 -- where those of all states that have matches do, or of the others, they were
 abbrev pub PushesSide : {Z : Type 0} → Packer → Bool → Buffers Z → Buffers Z → Result (Unit {0}) AllocError → Type 0

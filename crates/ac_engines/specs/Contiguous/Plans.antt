@@ -106,6 +106,10 @@ format_for q u = node_format q.trie.built q.dense_depth u
 abbrev pub HasMatchLen : PackPlan → ℕ → ℕ → Type 0
 HasMatchLen q s matches = ForNode (MayPack q) s (λ nodes u. matches ≡ match_len_of q u)
 
+-- and this form
+abbrev pub HasFormat : PackPlan → ℕ → Format → Type 0
+HasFormat q s format = ForNode (MayPack q) s (λ nodes u. format ≡ format_for q u)
+
 -- up to this place those stand that have matches
 abbrev pub IsFrontEnd : PackPlan → ℕ → Type 0
 IsFrontEnd q place = (nodes : List Node) → MayPack q nodes → place ≡ front_end q nodes

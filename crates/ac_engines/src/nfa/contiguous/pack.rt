@@ -1,14 +1,15 @@
 //! Packing the states of a trie.
-ghost use Rattle.std.specs.Prelude.{◌≡◌, ◌<◌, ◌≤◌, IfOk, List, [], length, slice_index_or};
+ghost use Rattle.std.specs.Prelude.{◌≡◌, ◌<◌, ◌≤◌, IfOk, List, [], length, slice_get, slice_index_or, Some};
 ghost use Rattle.ac_automaton.specs.Util.{alphabet_len, GREATEST, Node};
-ghost use Rattle.ac_engines.specs.Contiguous.Plans.{all_words};
-ghost use Rattle.ac_engines.specs.Contiguous.Packs.{AreReady, ForPacked, HasPlaceIn, PacksAll, Pushes, PushesSide, PushesWordsOf, dead_words};
+ghost use Rattle.ac_automaton.specs.Prelude.{HasOwn};
+ghost use Rattle.ac_engines.specs.Contiguous.Plans.{HasFormat, all_words};
+ghost use Rattle.ac_engines.specs.Contiguous.Packs.{AppendsWordsOf, AreReady, ForPacked, HasPlaceIn, PacksAll, Pushes, PushesSide, PushesWordsOf, dead_words};
 ghost use Rattle.ac_engines.specs.declared.nfa.contiguous.format.Format;
 
 use super::format::Format;
 use super::plan::Plan;
 use super::state::{Edge, FAIL};
-use super::state_fields::{StateFields, push_state};
+use super::state_fields::{StateFields, push_one, push_state};
 use crate::matches::list_matches;
 use ac_automaton::automaton::Automaton;
 use ac_automaton::nfa::noncontiguous::{DEAD, FIRST_INNER, START};
@@ -49,6 +50,20 @@ impl<'a, A: Allocator> Packer<'a, A> {
         self.numbers[sid.as_usize()].as_usize() as u32
     }
 
+    /// Returns one of the own transitions of a state.
+    fn edge(&self, sid: StateID, index: usize) -> Edge
+        requires state { HasPlaceIn self.now sid }
+        requires within { HasOwn self.now.plan.trie sid index }
+        ensures { ForPacked self.now sid (λ s. slice_get s.edges index ≡ Some result) }
+    {
+        let plan = self.plan;
+        let (byte, next) = plan.nfa.own(sid, index);
+        Edge {
+            class: plan.classes.get(byte),
+            target: self.number(next),
+        }
+    }
+
     /// Puts the own transitions of a state into a list, and nothing else.
     ///
     /// # Errors
@@ -58,14 +73,9 @@ impl<'a, A: Allocator> Packer<'a, A> {
         ensures { ForPacked self.now sid (λ s. IfOk result (λ _. edges.new.items ≡ s.edges)) }
     {
         let plan = self.plan;
-        let nfa = plan.nfa;
         edges.clear();
-        for index in 0..nfa.own_len(sid) {
-            let (byte, next) = nfa.own(sid, index);
-            edges.push(Edge {
-                class: plan.classes.get(byte),
-                target: self.number(next),
-            })?;
+        for index in 0..plan.nfa.own_len(sid) {
+            edges.push(self.edge(sid, index))?;
         }
         Ok(())
     }
@@ -100,12 +110,52 @@ impl<'a, A: Allocator> Packer<'a, A> {
         }
     }
 
-    /// Appends the words of a state.
+    /// Appends the words of a state. Most states of long patterns have one transition and no match, so these take no
+    /// lists.
     ///
     /// # Errors
     /// `AllocError` where a request for memory is refused.
     fn push(&self, buffers: &mut Buffers<A>, sid: StateID) -> Result<(), AllocError>
         requires state { HasPlaceIn self.now sid }
+        ensures { PushesWordsOf self.now sid buffers.old buffers.new result }
+    {
+        let plan = self.plan;
+        match plan.format(sid, plan.match_len(sid)) {
+            Format::One => self.push_only(&mut buffers.words, sid),
+            format => self.push_lists(buffers, sid, format),
+        }
+    }
+
+    /// Appends the words of a state with one transition and no match.
+    ///
+    /// # Errors
+    /// `AllocError` where a request for memory is refused.
+    fn push_only(&self, words: &mut Vec<u32, A>, sid: StateID) -> Result<(), AllocError>
+        requires state { HasPlaceIn self.now sid }
+        requires one { HasFormat self.now.plan sid Format.One }
+        ensures { AppendsWordsOf self.now sid words.old.items words.new.items result }
+    {
+        let state_fields = StateFields {
+            failure: self.failure(sid),
+            default_target: FAIL,
+            edges: &[self.edge(sid, 0)],
+            matches: &[],
+        };
+        push_one(words, &state_fields)
+    }
+
+    /// Appends the words of a state in its form.
+    ///
+    /// # Errors
+    /// `AllocError` where a request for memory is refused.
+    fn push_lists(
+        &self,
+        buffers: &mut Buffers<A>,
+        sid: StateID,
+        format: Format,
+    ) -> Result<(), AllocError>
+        requires state { HasPlaceIn self.now sid }
+        requires format { HasFormat self.now.plan sid format }
         ensures { PushesWordsOf self.now sid buffers.old buffers.new result }
     {
         let plan = self.plan;
@@ -119,7 +169,7 @@ impl<'a, A: Allocator> Packer<'a, A> {
         };
         push_state(
             &mut buffers.words,
-            plan.format(sid, buffers.matches.len()),
+            format,
             plan.classes.alphabet_len(),
             state_fields,
         )

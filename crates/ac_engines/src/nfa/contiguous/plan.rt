@@ -2,7 +2,7 @@
 ghost use Rattle.std.specs.Prelude.{◌≡◌, ◌+◌, ◌≤◌, ◌∷◌, IfOk, List, [], length};
 ghost use Rattle.ac_automaton.specs.Prelude.{ForNode};
 ghost use Rattle.ac_automaton.specs.Util.{alphabet_len, AreClasses, GREATEST, Node, SetsApart};
-ghost use Rattle.ac_engines.specs.Contiguous.Plans.{ArePlaces, HasMatchLen, HasWords, IsFrontEnd, MayPack, all_words, format_for, has_matches, size_of};
+ghost use Rattle.ac_engines.specs.Contiguous.Plans.{ArePlaces, HasFormat, HasMatchLen, HasWords, IsFrontEnd, MayPack, all_words, has_matches, size_of};
 
 use super::format::{Format, format_of, state_words};
 use ac_automaton::automaton::Automaton;
@@ -63,7 +63,7 @@ impl<'a, A: Allocator> Plan<'a, A> {
     }
 
     /// Returns how many matches a state has.
-    fn match_len(&self, sid: StateID) -> usize
+    pub(super) fn match_len(&self, sid: StateID) -> usize
         requires state { HasWords self.now sid }
         ensures value { HasMatchLen self.now sid result }
         ensures few { result ≤ GREATEST + 1 }
@@ -79,7 +79,7 @@ impl<'a, A: Allocator> Plan<'a, A> {
     pub(super) fn format(&self, sid: StateID, matches: usize) -> Format
         requires state { HasWords self.now sid }
         requires matches { HasMatchLen self.now sid matches }
-        ensures { ForNode (MayPack self.now) sid (λ nodes u. result ≡ format_for self.now u) }
+        ensures { HasFormat self.now sid result }
     {
         if sid.as_usize() < FIRST_INNER {
             return Format::Dense;

@@ -101,7 +101,7 @@ fn set_targets(targets: &mut [u32], edges: &[Edge])
 ///
 /// # Errors
 /// `AllocError` where a request for memory is refused.
-fn push_one<A: Allocator>(
+pub(super) fn push_one<A: Allocator>(
     words: &mut Vec<u32, A>,
     state_fields: &StateFields<'_>,
 ) -> Result<(), AllocError>
@@ -109,10 +109,11 @@ fn push_one<A: Allocator>(
     ensures { Appends words.old.items words.new.items (one_head state_fields.now) result }
 {
     let edge = state_fields.edges[0];
-    words.push(u32::from_le_bytes([ONE, edge.class, 0, 0]))?;
-    words.push(state_fields.failure)?;
-    words.push(edge.target)?;
-    Ok(())
+    words.extend_from_slice(&[
+        u32::from_le_bytes([ONE, edge.class, 0, 0]),
+        state_fields.failure,
+        edge.target,
+    ])
 }
 
 /// Appends the words of a state with the classes of its transitions, four in a word, and then their targets, up to
