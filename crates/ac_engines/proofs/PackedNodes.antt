@@ -1,8 +1,8 @@
 -- What the states of a trie spell.
-use Rattle.std.proofs.Common.{◌≡◌, ◌≢◌, inl, inr, ℕ, zero, suc, ◌+◌, ◌-◌, ◌<◌, ◌≤◌, List, [], ◌∷◌, ◌++◌, length, map, slice_index_or, take, refl, ap, subst, sym, ◌∙◌, arith, Some, None, option_map, ◌&&◌, slice_get, if◌then◌else◌, rules}
+use Rattle.std.proofs.Common.{◌≡◌, ◌≢◌, inl, inr, ℕ, zero, suc, ◌+◌, ◌-◌, ◌<◌, ◌≤◌, List, [], ◌∷◌, ◌++◌, length, map, slice_index_or, take, refl, ap, subst, sym, ◌∙◌, arith, Some, None, option_map, ◌&&◌, slice_get, if◌then◌else◌, rules, false}
 use Rattle.std.specs.List.{All, range_with_len}
 use Rattle.std.specs.List.Sorted.{IsStrictlyIncreasing}
-use Rattle.std.proofs.lemmas.Bool.{cases_lt}
+use Rattle.std.proofs.lemmas.Bool.{cases_lt, ltb-false}
 use Rattle.std.proofs.lemmas.List.{get_or_past, length-map}
 use Rattle.std.proofs.lemmas.List.Elements.{All-map}
 use Rattle.std.proofs.lemmas.Option.{slice_get-map, slice_get_within}
@@ -13,7 +13,8 @@ use Rattle.ac_util.proofs.ClassLemmas.{stands-from_node}
 use Rattle.ac_util.proofs.ClassLists.{alphabet_len-few, class_at-below}
 use Rattle.ac_util.proofs.Lists.{AllPairs-from_IsOrdered, All-from_IsIn, Contains-from_IsIn, IsIn, IsOrdered, IsOrdered-filter, IsOrdered-map, IsOrdered-range}
 use Rattle.ac_automaton.specs.Prelude.{AreNodes, IsOwn, leads_on, matches_of, transition_bytes_of, plain_of, Trie}
-use Rattle.ac_engines.specs.Prelude.{anchored_of, AreReady, ContiguousView, Edge, edges_of, FAIL, Format, format_of, MayPack, node_format, number_at, One, ONE_MATCH, one_words, packed_of, Packer, PackPlan, Places, places_of, format_words, PackedState, packed_at, packed_state, state_words}
+use Rattle.ac_engines.specs.Prelude.{anchored_of, AreReady, ContiguousView, Edge, edges_of, FAIL, Format, format_of, has_matches, MayPack, node_format, number_at, One, ONE_MATCH, one_words, packed_of, Packer, PackPlan, Places, places_of, format_words, PackedState, packed_at, packed_state, state_words}
+use Rattle.ac_engines.specs.Contiguous.Plans.{match_len_of}
 use Rattle.ac_engines.specs.Contiguous.Words.{Fits}
 use Rattle.ac_engines.proofs.Filled.{transition_bytes_of-only, transition_bytes_of-small}
 use Rattle.ac_engines.proofs.MatchCounts.{matches-few, matches-numbered}
@@ -240,6 +241,10 @@ state-spells f nodes h s None reached named =
     let string = (string-of f.plan.trie nodes h.may.are_nodes s None reached named).is in absurd cc
 state-spells f nodes h s (Some w) reached named =
     search (rules, alphabet_len-few, edges-ascend, edges-below, edges-format_words, matches-below, matches-small, matches-format_words, string-fits)
+
+-- a node without matches has none
+pub no-matches : (q : PackPlan) (nodes : List Node) (u : Node) → has_matches q nodes u ≡ false → 0 ≡ match_len_of q u
+no-matches q nodes u none = search (rules, ltb-false)
 
 -- the only transition is the first one
 pub only-edge : (edges : List Edge) (e : Edge) → length edges ≡ 1 → slice_get edges 0 ≡ Some e → edges ≡ e ∷ []

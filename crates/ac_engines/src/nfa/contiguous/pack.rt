@@ -120,9 +120,12 @@ impl<'a, A: Allocator> Packer<'a, A> {
         ensures { PushesWordsOf self.now sid buffers.old buffers.new result }
     {
         let plan = self.plan;
-        match plan.format(sid, plan.match_len(sid)) {
+        if plan.is_match(sid) {
+            return self.push_lists(buffers, sid);
+        }
+        match plan.format(sid, 0) {
             Format::One => self.push_only(&mut buffers.words, sid),
-            format => self.push_lists(buffers, sid, format),
+            _ => self.push_lists(buffers, sid),
         }
     }
 
@@ -144,18 +147,12 @@ impl<'a, A: Allocator> Packer<'a, A> {
         push_one(words, &state_fields)
     }
 
-    /// Appends the words of a state in its form.
+    /// Appends the words of a state in any form.
     ///
     /// # Errors
     /// `AllocError` where a request for memory is refused.
-    fn push_lists(
-        &self,
-        buffers: &mut Buffers<A>,
-        sid: StateID,
-        format: Format,
-    ) -> Result<(), AllocError>
+    fn push_lists(&self, buffers: &mut Buffers<A>, sid: StateID) -> Result<(), AllocError>
         requires state { HasPlaceIn self.now sid }
-        requires format { HasFormat self.now.plan sid format }
         ensures { PushesWordsOf self.now sid buffers.old buffers.new result }
     {
         let plan = self.plan;
@@ -169,7 +166,7 @@ impl<'a, A: Allocator> Packer<'a, A> {
         };
         push_state(
             &mut buffers.words,
-            format,
+            plan.format(sid, buffers.matches.len()),
             plan.classes.alphabet_len(),
             state_fields,
         )

@@ -63,7 +63,7 @@ impl<'a, A: Allocator> Plan<'a, A> {
     }
 
     /// Returns how many matches a state has.
-    pub(super) fn match_len(&self, sid: StateID) -> usize
+    fn match_len(&self, sid: StateID) -> usize
         requires state { HasWords self.now sid }
         ensures value { HasMatchLen self.now sid result }
         ensures few { result ≤ GREATEST + 1 }
@@ -154,12 +154,13 @@ impl<'a, A: Allocator> Plan<'a, A> {
         let mut back = match_end;
         for state in START..self.nfa.states_len() {
             let sid = StateID::must(state);
+            let words = self.words(sid);
             if self.is_match(sid) {
                 numbers.push(StateID::must(front as usize))?;
-                front += self.words(sid);
+                front += words;
             } else {
                 numbers.push(StateID::must(back as usize))?;
-                back += self.words(sid);
+                back += words;
             }
         }
         Ok(numbers)

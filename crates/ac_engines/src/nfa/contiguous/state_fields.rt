@@ -109,11 +109,10 @@ pub(super) fn push_one<A: Allocator>(
     ensures { Appends words.old.items words.new.items (one_head state_fields.now) result }
 {
     let edge = state_fields.edges[0];
-    words.extend_from_slice(&[
-        u32::from_le_bytes([ONE, edge.class, 0, 0]),
-        state_fields.failure,
-        edge.target,
-    ])
+    words.push(u32::from_le_bytes([ONE, edge.class, 0, 0]))?;
+    words.push(state_fields.failure)?;
+    words.push(edge.target)?;
+    Ok(())
 }
 
 /// Appends the words of a state with the classes of its transitions, four in a word, and then their targets, up to

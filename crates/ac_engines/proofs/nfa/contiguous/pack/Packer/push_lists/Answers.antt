@@ -3,7 +3,7 @@ use Rattle.std.specs.List.Sorted.{IsStrictlyIncreasing}
 use Rattle.std.proofs.lemmas.Grind.{common_steps}
 use Rattle.ac_automaton.specs.Util.{alphabet_len, No, Node}
 use Rattle.ac_automaton.specs.Prelude.{AreNodes, matches_of, Trie}
-use Rattle.ac_engines.specs.Prelude.{anchored_of, AreReady, Edge, node_format, packed_of, Packer, PackPlan, places_of, packed_state}
+use Rattle.ac_engines.specs.Prelude.{anchored_of, AreReady, Edge, MayPack, node_format, packed_of, Packer, PackPlan, places_of, packed_state}
 use Rattle.ac_engines.proofs.PackedNodes.{matches-format_words, format_words-by_parts, state-spells}
 use Rattle.ac_engines.proofs.nfa.contiguous.pack.Packer.push_lists.Given.{Over}
 use Rattle.ac_engines.proofs.nfa.contiguous.pack.Packer.push_lists.Goals.{After-alphabet_len}
@@ -24,8 +24,11 @@ module _ (g : Over) (c : After-alphabet_len g) (nodes : List Node) (u : Node) (r
       ∙ c.in_ok-list_matches.ensures nodes u (subst (λ (t : Trie). AreNodes t nodes) (sym trie) ready.may.are_nodes) named)
       ∙ sym (matches-format_words (packed_of f.plan nodes f.numbers []) (places_of f.plan nodes f.numbers) (anchored_of c.args.sid) u)
 
-  form : c.args.format ≡ node_format c.args.self.now.plan.trie.built c.args.self.now.plan.dense_depth u
-  form = c.requires.format nodes u ready.may named
+  form : c.format.result ≡ node_format c.args.self.now.plan.trie.built c.args.self.now.plan.dense_depth u
+  form =
+      let plan = ap (λ (f : Packer). f.plan) c.self.view_is in
+      subst (λ (p : PackPlan). c.format.result ≡ node_format p.trie.built p.dense_depth u) plan
+      (c.format.ensures nodes u (subst (λ (p : PackPlan). MayPack p nodes) (sym plan) ready.may) named)
 
   classes : c.alphabet_len.result ≡ alphabet_len c.args.self.now.plan.classes
   classes = grind (arith, common_steps)

@@ -15,6 +15,10 @@ loop-state-init g c = λ nodes may. record {
 }
 
 -- each state has words
+pub words-words-requires : goal.words-words-requires
+words-words-requires g c = search (rules, has-words)
+
+-- the state is the same
 pub is_match-requires : goal.is_match-requires
 is_match-requires g c = search (rules, has-words)
 
@@ -25,20 +29,12 @@ must-requires g c =
     let within = front-within c.args.self.now nodes may _ _ _ c.self.view_is c.states_len-state-end.ensures.value c.loop-state-test.true in
     record { small = omega (arith, (c.loop-state.invariant nodes may).front_is, within, c.requires.small) }
 
--- the state is the same
-pub words-front-requires : goal.words-front-requires
-words-front-requires g c = search (rules, has-words)
-
 -- and so do the others
 pub must-requires-else-is_match : goal.must-requires-else-is_match
 must-requires-else-is_match g c =
     let (nodes, may) = c.requires.may in
     let within = back-within c.args.self.now nodes may _ _ _ c.self.view_is c.states_len-state-end.ensures.value c.loop-state-test.true in
     record { small = omega (arith, (c.loop-state.invariant nodes may).back_is, within, c.requires.small) }
-
--- the state is the same
-pub words-back-requires : goal.words-back-requires
-words-back-requires g c = search (rules, has-words)
 
 -- one state more has its place, in front or among the others
 pub loop-state-preserved : goal.loop-state-preserved
@@ -48,15 +44,15 @@ loop-state-preserved g c = λ nodes may.
     let are = l.invariant nodes may in
     elim c.if-is_match.branch [
       | then-is_match+in_ok-push w ↦
-          let step = takes-size nodes may true w.if-is_match.true w.words-front.result w.words-front.ensures.value in
+          let step = takes-size nodes may true w.if-is_match.true c.words-words.result c.words-words.ensures.value in
           rw (w.numbers-is, w.in_ok-push.ensures.items, w.must.ensures.value, w.front-is, w.back-is) (placed-more
-          q nodes l.state l.numbers.items l.front l.back are true _ step (l.front + w.words-front.result) l.back refl
+          q nodes l.state l.numbers.items l.front l.back are true _ step (l.front + c.words-words.result) l.back refl
           (omega arith))
       | else-is_match+in_ok-push-2 w ↦
-          let step = takes-size nodes may false w.if-is_match.false w.words-back.result w.words-back.ensures.value in
+          let step = takes-size nodes may false w.if-is_match.false c.words-words.result c.words-words.ensures.value in
           rw (w.numbers-is, w.in_ok-push-2.ensures.items, w.must-else-is_match.ensures.value, w.front-is, w.back-is)
           (placed-more q nodes l.state l.numbers.items l.front l.back are false _ step l.front
-          (l.back + w.words-back.result) (omega arith) refl)
+          (l.back + c.words-words.result) (omega arith) refl)
     ]
   where
     takes-size : (nodes : List Node) → MayPack c.args.self.now nodes → (t : Bool) → c.is_match.result ≡ t → (words : ℕ)
