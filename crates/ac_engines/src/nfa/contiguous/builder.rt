@@ -168,7 +168,7 @@ impl Builder {
     {
         let classes = classes_for(nfa, self.byte_classes);
         let plan = Plan::new(nfa, &classes, self.dense_depth);
-        check_words(plan.sizes().all).is_ok()
+        check_words(plan.all_words()).is_ok()
     }
 
     /// Builds an automaton that gives the same answers as a noncontiguous NFA, whose patterns it shares. Of the
@@ -196,12 +196,16 @@ impl Builder {
     {
         let classes = classes_for(nfa, self.byte_classes);
         let plan = Plan::new(nfa, &classes, self.dense_depth);
-        let sizes = plan.sizes();
-        let len = check_words(sizes.all)?;
-        let numbers = plan.numbers(alloc.clone()?, sizes.match_end)?;
+        let match_end = plan.front_end();
+        let Some(numbers) = plan.numbers(&alloc, match_end) else {
+            // Whether there are too many words is counted without memory.
+            check_words(plan.all_words())?;
+            return Err(BuildError::Memory);
+        };
+        let len = check_words(numbers.all)?;
         let packer = Packer {
             plan: &plan,
-            numbers: &numbers,
+            numbers: &numbers.list,
         };
         let words = packer.pack(alloc, len as usize)?;
         Ok(NFA {
@@ -209,9 +213,9 @@ impl Builder {
             classes,
             dense_depth: self.dense_depth,
             words,
-            start: numbers[START],
-            anchored_start: numbers[ANCHORED_START],
-            match_end: sizes.match_end as usize,
+            start: numbers.list[START],
+            anchored_start: numbers.list[ANCHORED_START],
+            match_end: match_end as usize,
         })
     }
 }

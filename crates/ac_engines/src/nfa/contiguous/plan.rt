@@ -1,5 +1,5 @@
 //! Which form the states of a trie take, and where each is placed.
-ghost use Rattle.std.specs.Prelude.{◌≡◌, ◌+◌, ◌≤◌, ◌∷◌, IfOk, List, [], length};
+ghost use Rattle.std.specs.Prelude.{◌≡◌, ◌+◌, ◌≤◌, ◌++◌, ◌∷◌, IfSome, List, [], length};
 ghost use Rattle.ac_automaton.specs.Prelude.{ForNode};
 ghost use Rattle.ac_automaton.specs.Util.{alphabet_len, AreClasses, GREATEST, Node, SetsApart};
 ghost use Rattle.ac_engines.specs.Contiguous.Plans.{ArePlaces, HasFormat, HasMatchLen, HasWords, IsFrontEnd, MayPack, all_words, has_matches, size_of};
@@ -9,7 +9,7 @@ use ac_automaton::automaton::Automaton;
 use ac_automaton::nfa::noncontiguous::{DEAD, FIRST_INNER, NFA, START};
 use ac_util::alphabet::ByteClasses;
 use ac_util::primitives::StateID;
-use std::alloc::{AllocError, Allocator};
+use std::alloc::Allocator;
 use std::marker::Model;
 
 /// What states are packed from: a trie, the class of each byte, and the length below which states are dense.
@@ -28,10 +28,10 @@ impl<'a, A: Allocator> Model for Plan<'a, A> {
     ghost view = { λ p. record { trie = p.nfa.now; classes = p.classes.now; dense_depth = p.dense_depth } };
 }
 
-/// How many words all states take, and the address at which the states that have matches end.
+/// The number of each state of a trie, and how many words all states take.
 #[derive(Drop)]
-pub(super) struct Sizes {
-    pub(super) match_end: u64,
+pub(super) struct Numbers<A: Allocator> {
+    pub(super) list: Vec<StateID, A>,
     pub(super) all: u64,
 }
 
@@ -115,67 +115,79 @@ impl<'a, A: Allocator> Plan<'a, A> {
         state_words(Format::Dense, self.classes.alphabet_len() as u64, 0, 0)
     }
 
-    /// Returns how many words all states take, and the address at which the states that have matches end.
-    pub(super) fn sizes(&self) -> Sizes
+    /// Returns how many words all states take.
+    pub(super) fn all_words(&self) -> u64
         requires may { (nodes : List Node) × MayPack self.now nodes }
-        ensures match_end { IsFrontEnd self.now result.match_end }
-        ensures all { result.all ≡ all_words self.now }
-        ensures ordered { result.match_end ≤ result.all }
+        ensures { result ≡ all_words self.now }
     {
-        let dead = self.dead_words();
-        let mut sizes = Sizes {
-            match_end: dead,
-            all: dead,
-        };
+        let mut all = self.dead_words();
         for state in START..self.nfa.states_len() {
-            let sid = StateID::must(state);
-            let words = self.words(sid);
-            sizes.all += words;
-            if self.is_match(sid) {
-                sizes.match_end += words;
-            }
+            all += self.words(StateID::must(state));
         }
-        sizes
+        all
     }
 
-    /// Returns the number of each state of the trie, which is the address of its first word. States that have matches
-    /// come first, up to the address that is passed, and the others after them.
+    /// Returns the address at which the states that have matches end.
+    pub(super) fn front_end(&self) -> u64
+        requires may { (nodes : List Node) × MayPack self.now nodes }
+        ensures { IsFrontEnd self.now result }
+    {
+        let mut end = self.dead_words();
+        for state in START..self.nfa.states_len() {
+            let sid = StateID::must(state);
+            if self.is_match(sid) {
+                end += self.words(sid);
+            }
+        }
+        end
+    }
+}
+
+impl<'a, A: Allocator + Clone> Plan<'a, A> {
+    /// Returns the number of each state of the trie, which is the address of its first word, and how many words there
+    /// are. States that have matches come first, up to the address that is passed, and the others after them.
     ///
-    /// # Errors
-    /// `AllocError` where a request for memory is refused.
-    pub(super) fn numbers(&self, alloc: A, match_end: u64) -> Result<Vec<StateID, A>, AllocError>
+    /// Returns `None` where a request for memory is refused, and where a number would be too great.
+    pub(super) fn numbers(&self, alloc: &A, match_end: u64) -> Option<Numbers<A>>
         requires may { (nodes : List Node) × MayPack self.now nodes }
         requires front { IsFrontEnd self.now match_end }
-        requires small { all_words self.now ≤ GREATEST }
-        ensures { IfOk result (λ numbers. ArePlaces self.now numbers.items) }
+        ensures places { IfSome result (λ numbers. ArePlaces self.now numbers.list.items) }
+        ensures all { IfSome result (λ numbers. numbers.all ≡ all_words self.now) }
     {
-        let mut numbers = first_numbers(alloc, self.nfa.states_len())?;
+        let mut list = first_numbers(alloc.clone().ok()?, self.nfa.states_len())?;
         let mut front = self.dead_words();
         let mut back = match_end;
         for state in START..self.nfa.states_len() {
             let sid = StateID::must(state);
             let words = self.words(sid);
             if self.is_match(sid) {
-                numbers.push(StateID::must(front as usize))?;
+                push_number(&mut list, front)?;
                 front += words;
             } else {
-                numbers.push(StateID::must(back as usize))?;
+                push_number(&mut list, back)?;
                 back += words;
             }
         }
-        Ok(numbers)
+        Some(Numbers { list, all: back })
     }
 }
 
-/// Returns the places of the dead state and of the one that no search reaches, with room for those of all states.
-///
-/// # Errors
-/// `AllocError` where a request for memory is refused.
-fn first_numbers<A: Allocator>(alloc: A, states: usize) -> Result<Vec<StateID, A>, AllocError>
-    ensures { IfOk result (λ numbers. numbers.items ≡ 0 ∷ 0 ∷ []) }
+/// Returns the places of the dead state and of the one that no search reaches, with room for those of all states, or
+/// `None` where a request for memory is refused.
+fn first_numbers<A: Allocator>(alloc: A, states: usize) -> Option<Vec<StateID, A>>
+    ensures { IfSome result (λ numbers. numbers.items ≡ 0 ∷ 0 ∷ []) }
 {
-    let mut numbers = Vec::with_capacity(alloc, states)?;
-    numbers.push(StateID::must(DEAD))?;
-    numbers.push(StateID::must(DEAD))?;
-    Ok(numbers)
+    let mut numbers = Vec::with_capacity(alloc, states).ok()?;
+    push_number(&mut numbers, DEAD as u64)?;
+    push_number(&mut numbers, DEAD as u64)?;
+    Some(numbers)
+}
+
+/// Appends a number to a list. Returns `None` where a request for memory is refused, and where it is too great.
+fn push_number<A: Allocator>(list: &mut Vec<StateID, A>, number: u64) -> Option<()>
+    ensures small { IfSome result (λ _. number ≤ GREATEST) }
+    ensures items { IfSome result (λ _. list.new.items ≡ list.old.items ++ number ∷ []) }
+{
+    let number = StateID::new(number as usize).ok()?;
+    list.push(number).ok()
 }

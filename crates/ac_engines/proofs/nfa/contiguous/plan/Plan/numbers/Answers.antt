@@ -1,15 +1,15 @@
 use Rattle.std.proofs.Common.{◌≡◌, ◌+◌, ℕ, Bool, List, Some, slice_get, true, false, length, ap, refl, sym, ◌∙◌, arith, rules}
 use Rattle.ac_util.specs.Node.{Node}
 use Rattle.ac_engines.specs.Contiguous.Plans.{MayPack, size_of}
-use Rattle.ac_engines.proofs.PlanSums.{TakesSize, back-within, before-starts, front-within, has-words, named-below, placed-more, places-first, plan-states, takes}
-use Rattle.ac_engines.proofs.nfa.contiguous.plan.Plan.numbers.Goals.{then-is_match+in_ok-push, else-is_match+in_ok-push-2}
+use Rattle.ac_engines.proofs.PlanSums.{TakesSize, before, before-starts, has-words, named-below, placed-more, places-first, plan-states, sizes-whole, takes}
+use Rattle.ac_engines.proofs.nfa.contiguous.plan.Plan.numbers.Goals.{then-is_match+in_ok-push_number, else-is_match+in_ok-push_number-2}
 use Rattle.ac_engines.proofs.nfa.contiguous.plan.Plan.numbers.Goals as goal
 
 -- the first two states have their places
 pub loop-state-init : goal.loop-state-init
 loop-state-init g c = λ nodes may. record {
-  count = ap length c.in_ok-numbers.ensures;
-  each = λ s below. rw c.in_ok-numbers.ensures (places-first c.args.self.now nodes s below);
+  count = ap length c.in_ok-list.ensures;
+  each = λ s below. rw c.in_ok-list.ensures (places-first c.args.self.now nodes s below);
   front_is = omega (arith, c.dead_words-front.ensures.value, before-starts c.args.self.now nodes true);
   back_is = omega (arith, c.requires.front nodes may, before-starts c.args.self.now nodes false);
 }
@@ -22,20 +22,6 @@ words-words-requires g c = search (rules, has-words)
 pub is_match-requires : goal.is_match-requires
 is_match-requires g c = search (rules, has-words)
 
--- those in front lie within all words
-pub must-requires : goal.must-requires
-must-requires g c =
-    let (nodes, may) = c.requires.may in
-    let within = front-within c.args.self.now nodes may _ _ _ c.self.view_is c.states_len-state-end.ensures.value c.loop-state-test.true in
-    record { small = omega (arith, (c.loop-state.invariant nodes may).front_is, within, c.requires.small) }
-
--- and so do the others
-pub must-requires-else-is_match : goal.must-requires-else-is_match
-must-requires-else-is_match g c =
-    let (nodes, may) = c.requires.may in
-    let within = back-within c.args.self.now nodes may _ _ _ c.self.view_is c.states_len-state-end.ensures.value c.loop-state-test.true in
-    record { small = omega (arith, (c.loop-state.invariant nodes may).back_is, within, c.requires.small) }
-
 -- one state more has its place, in front or among the others
 pub loop-state-preserved : goal.loop-state-preserved
 loop-state-preserved g c = λ nodes may.
@@ -43,15 +29,15 @@ loop-state-preserved g c = λ nodes may.
     let l = c.loop-state in
     let are = l.invariant nodes may in
     elim c.if-is_match.branch [
-      | then-is_match+in_ok-push w ↦
+      | then-is_match+in_ok-push_number w ↦
           let step = takes-size nodes may true w.if-is_match.true c.words-words.result c.words-words.ensures.value in
-          rw (w.numbers-is, w.in_ok-push.ensures.items, w.must.ensures.value, w.front-is, w.back-is) (placed-more
-          q nodes l.state l.numbers.items l.front l.back are true _ step (l.front + c.words-words.result) l.back refl
+          rw (w.list-is, w.in_ok-push_number.ensures.items, w.front-is, w.back-is) (placed-more
+          q nodes l.state l.list.items l.front l.back are true _ step (l.front + c.words-words.result) l.back refl
           (omega arith))
-      | else-is_match+in_ok-push-2 w ↦
+      | else-is_match+in_ok-push_number-2 w ↦
           let step = takes-size nodes may false w.if-is_match.false c.words-words.result c.words-words.ensures.value in
-          rw (w.numbers-is, w.in_ok-push-2.ensures.items, w.must-else-is_match.ensures.value, w.front-is, w.back-is)
-          (placed-more q nodes l.state l.numbers.items l.front l.back are false _ step l.front
+          rw (w.list-is, w.in_ok-push_number-2.ensures.items, w.front-is, w.back-is)
+          (placed-more q nodes l.state l.list.items l.front l.back are false _ step l.front
           (l.back + c.words-words.result) (omega arith) refl)
     ]
   where
@@ -68,10 +54,21 @@ loop-state-preserved g c = λ nodes may.
         (sym is ∙ c.is_match.ensures nodes own.node may named) (sized nodes own.node may named)
 
 -- all states have their places
-pub returns : goal.returns
-returns g c nodes may =
+pub returns-clause-places : goal.returns-clause-places
+returns-clause-places g c nodes may =
     let states = plan-states _ c.args.self.now nodes _ may c.self.view_is c.states_len-state-end.ensures.value in
     let all : c.loop-state.state ≡ length nodes =
     omega (arith, states, c.loop-state-test.false, c.loop-state.auto.state-end, may.are_nodes.numbered.count) in
     let are = c.loop-state.invariant nodes may in
     record { count = are.count ∙ all; each = λ s below. are.each s (omega (arith, all, below)) }
+
+-- and the next one would follow all of them
+pub returns-clause-all : goal.returns-clause-all
+returns-clause-all g c =
+    let (nodes, may) = c.requires.may in
+    let q = c.args.self.now in
+    let states = plan-states _ q nodes _ may c.self.view_is c.states_len-state-end.ensures.value in
+    let all : c.loop-state.state ≡ length nodes =
+    omega (arith, states, c.loop-state-test.false, c.loop-state.auto.state-end, may.are_nodes.numbered.count) in
+    let back = ap (λ n. before q nodes false n) all in
+    omega (arith, (c.loop-state.invariant nodes may).back_is, back, sizes-whole q nodes may)

@@ -2,14 +2,12 @@ use Rattle.std.proofs.Common.{◌≡◌, ◌+◌, ◌*◌, ◌≤◌, List, None
 use Rattle.ac_automaton.specs.Util.{GREATEST, Node}
 use Rattle.ac_engines.specs.Contiguous.Plans.{MayPack, size_of}
 use Rattle.ac_engines.proofs.PlanSums.{before}
-use Rattle.ac_engines.proofs.nfa.contiguous.plan.Plan.sizes.Given as goal
+use Rattle.ac_engines.proofs.nfa.contiguous.plan.Plan.all_words.Given as goal
 
 -- the sizes of the states so far are summed
 abbrev pub invariant-loop-state : goal.invariant-loop-state
 invariant-loop-state g l = record {
-  front : (nodes : List Node) → MayPack l.self nodes
-      → l.sizes.match_end ≡ size_of l.self nodes None + before l.self nodes true l.state;
   all : (nodes : List Node) → MayPack l.self nodes
-      → l.sizes.all ≡ l.sizes.match_end + before l.self nodes false l.state;
-  room : l.sizes.all ≤ (l.state + 1) * (GREATEST + 260);
+      → l.all ≡ size_of l.self nodes None + before l.self nodes true l.state + before l.self nodes false l.state;
+  room : l.all ≤ (l.state + 1) * (GREATEST + 260);
 }
