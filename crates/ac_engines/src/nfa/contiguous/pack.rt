@@ -199,6 +199,7 @@ impl<'a, A: Allocator> Packer<'a, A> {
     ///
     /// # Errors
     /// `AllocError` where a request for memory is refused.
+    #[inline]
     fn push_where(&self, buffers: &mut Buffers<A>, front: bool) -> Result<(), AllocError>
         requires ready { (nodes : List Node) × AreReady self.now nodes }
         ensures { PushesSide self.now front buffers.old buffers.new result }

@@ -38,6 +38,7 @@ impl<'a> Model for StateFields<'a> {
 ///
 /// # Errors
 /// `AllocError` where a request for memory is refused.
+#[inline]
 pub(super) fn push_state<A: Allocator>(
     words: &mut Vec<u32, A>,
     format: Format,
@@ -101,6 +102,7 @@ fn set_targets(targets: &mut [u32], edges: &[Edge])
 ///
 /// # Errors
 /// `AllocError` where a request for memory is refused.
+#[inline]
 pub(super) fn push_one<A: Allocator>(
     words: &mut Vec<u32, A>,
     state_fields: &StateFields<'_>,
@@ -173,6 +175,7 @@ fn class_at(edges: &[Edge], place: usize) -> u8
 ///
 /// # Errors
 /// `AllocError` where a request for memory is refused.
+#[inline]
 fn push_matches<A: Allocator>(
     words: &mut Vec<u32, A>,
     matches: &[PatternID],
