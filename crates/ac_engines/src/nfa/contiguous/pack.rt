@@ -33,7 +33,7 @@ impl<'a, A: Allocator> Model for Packer<'a, A> {
     ghost view = { λ p. record { plan = p.plan.now; numbers = p.numbers.now } };
 }
 
-/// The words of the states that were packed, and lists that are filled anew for each state.
+/// The words of the states that were packed, and lists that are filled anew for each state that takes some.
 #[derive(Drop)]
 struct Buffers<A: Allocator> {
     words: Vec<u32, A>,
@@ -199,7 +199,6 @@ impl<'a, A: Allocator> Packer<'a, A> {
     ///
     /// # Errors
     /// `AllocError` where a request for memory is refused.
-    #[inline]
     fn push_where(&self, buffers: &mut Buffers<A>, front: bool) -> Result<(), AllocError>
         requires ready { (nodes : List Node) × AreReady self.now nodes }
         ensures { PushesSide self.now front buffers.old buffers.new result }
