@@ -1,5 +1,5 @@
 -- What the states of a trie spell.
-use Rattle.std.proofs.Common.{◌≡◌, ◌≢◌, inl, inr, ℕ, zero, suc, ◌+◌, ◌-◌, ◌<◌, ◌≤◌, List, [], ◌∷◌, ◌++◌, length, map, slice_index_or, take, refl, ap, subst, sym, ◌∙◌, arith, Some, None, option_map, ◌&&◌, slice_get, if◌then◌else◌, rules, false}
+use Rattle.std.proofs.Common.{◌≡◌, ◌≢◌, inl, inr, ℕ, zero, suc, ◌+◌, ◌-◌, ◌<◌, ◌≤◌, List, [], ◌∷◌, ◌++◌, length, map, slice_index_or, refl, ap, subst, sym, ◌∙◌, arith, Some, None, option_map, ◌&&◌, slice_get, if◌then◌else◌, rules, false}
 use Rattle.std.specs.List.{All, range_with_len}
 use Rattle.std.specs.List.Sorted.{IsStrictlyIncreasing}
 use Rattle.std.proofs.lemmas.Bool.{cases_lt, ltb-false}
