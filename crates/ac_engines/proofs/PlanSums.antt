@@ -7,7 +7,7 @@ use Rattle.ac_automaton.specs.Util.{alphabet_len, Node, state_count}
 use Rattle.ac_automaton.specs.Prelude.{plain_of}
 use Rattle.ac_engines.specs.Prelude.{front_end, has_matches, HasWords, MayPack, packed_words, PackPlan, place_at, size_at, size_of, sized, total}
 use Rattle.ac_engines.proofs.LaidUpTo.{IsNamed}
-use Rattle.ac_engines.proofs.PackedSums.{total-both, total-inner, total-more}
+use Rattle.ac_engines.proofs.PackedSums.{total-both, total-grows, total-inner, total-more}
 
 -- a trie has as many states as there are nodes
 pub plan-states : (p q : PackPlan) (nodes : List Node) (n : ℕ) → MayPack q nodes → p ≡ q
@@ -78,6 +78,22 @@ module _ (q : PackPlan) (nodes : List Node) where
     pub has-words : (p : PackPlan) (n s sid : ℕ) → p ≡ q → n ≡ state_count p.trie.built.kind (plain_of p.trie.built)
         → 2 ≤ s → s < n → sid ≡ s → HasWords q sid
     has-words p n s sid same states reached below at = search (rules, named-below p n s same states below)
+
+    module _ (p : PackPlan) (n s : ℕ) (same : p ≡ q) (states : n ≡ state_count p.trie.built.kind (plain_of p.trie.built))
+        (below : s < n) where
+      -- the states before one take no more words than all
+      grows : (front : Bool) → before q nodes front s ≤ before q nodes front (length nodes)
+      grows front = total-grows (size_at q nodes front) s (length nodes) (omega (arith, plan-states p q nodes n may same states, below))
+
+      -- what stands in front lies within the words of the plan
+      pub front-within : size_of q nodes None + before q nodes true s
+          ≤ packed_words q.trie.built q.dense_depth (alphabet_len q.classes)
+      front-within = omega (arith, grows true, sizes-whole)
+
+      -- and so does what stands after it
+      pub back-within : front_end q nodes + before q nodes false s
+          ≤ packed_words q.trie.built q.dense_depth (alphabet_len q.classes)
+      back-within = omega (arith, grows false, sizes-whole)
 
   -- the first two states stand at 0
   pub places-first : (s : ℕ) → s < 2 → slice_index_or (0 ∷ 0 ∷ []) s 0 ≡ place_at q nodes s

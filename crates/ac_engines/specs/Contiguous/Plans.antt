@@ -1,6 +1,7 @@
 -- Where the states of the contiguous engine are placed.
-use Rattle.std.specs.Prelude.{◌≡◌, ℕ, zero, suc, ◌+◌, ◌<◌, ◌≤◌, nat_lt, Bool, true, false, List, length, slice_get, slice_index_or, Option, Some, None, if◌then◌else◌}
-use Rattle.ac_automaton.specs.Util.{alphabet_len, AreClasses, GREATEST, longest_len, No, Node, SetsApart}
+use Rattle.std.specs.Prelude.{◌≡◌, ◌⊎◌, ℕ, zero, suc, ◌+◌, ◌<◌, ◌≤◌, nat_lt, Bool, true, false, List, length, slice_get, slice_index_or, Option, Some, None, if◌then◌else◌}
+use Rattle.ac_util.specs.declared.error.BuildError.TheVariants.{Memory}
+use Rattle.ac_automaton.specs.Util.{alphabet_len, AreClasses, BuildError, GREATEST, longest_len, No, Node, SetsApart}
 use Rattle.ac_automaton.specs.declared.nfa.noncontiguous.state.TheConstants.{ANCHORED_START, START}
 use Rattle.ac_automaton.specs.Prelude.{AreNodes, ForNode, matches_of, Trie}
 use Rattle.ac_engines.specs.Dfa.Filling.{first_row_in}
@@ -117,3 +118,7 @@ IsFrontEnd q place = (nodes : List Node) → MayPack q nodes → place ≡ front
 -- these are the places of all states
 abbrev pub ArePlaces : PackPlan → List ℕ → Type 0
 ArePlaces q numbers = (nodes : List Node) → MayPack q nodes → HasPlaces q nodes numbers
+
+-- the error is that memory was refused, unless the number is more than a state may have as its number
+abbrev pub IsMemoryUnless : ℕ → BuildError → Type 0
+IsMemoryUnless number e = (e ≡ Memory) ⊎ (GREATEST < number)

@@ -197,10 +197,13 @@ impl Builder {
         let classes = classes_for(nfa, self.byte_classes);
         let plan = Plan::new(nfa, &classes, self.dense_depth);
         let match_end = plan.front_end();
-        let Some(numbers) = plan.numbers(&alloc, match_end) else {
-            // Whether there are too many words is counted without memory.
-            check_words(plan.all_words())?;
-            return Err(BuildError::Memory);
+        let numbers = match plan.numbers(&alloc, match_end) {
+            Ok(numbers) => numbers,
+            Err(e) => {
+                // Whether there are too many words is counted without memory.
+                check_words(plan.all_words())?;
+                return Err(e);
+            }
         };
         let len = check_words(numbers.all)?;
         let packer = Packer {

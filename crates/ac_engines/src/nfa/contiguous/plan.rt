@@ -1,15 +1,16 @@
 //! Which form the states of a trie take, and where each is placed.
-ghost use Rattle.std.specs.Prelude.{◌≡◌, ◌+◌, ◌≤◌, ◌++◌, ◌∷◌, IfSome, List, [], length};
+ghost use Rattle.std.specs.Prelude.{◌≡◌, ◌+◌, ◌≤◌, ◌++◌, ◌∷◌, IfErr, IfOk, List, [], length};
 ghost use Rattle.ac_automaton.specs.Prelude.{ForNode};
 ghost use Rattle.ac_automaton.specs.Util.{alphabet_len, AreClasses, GREATEST, Node, SetsApart};
-ghost use Rattle.ac_engines.specs.Contiguous.Plans.{ArePlaces, HasFormat, HasMatchLen, HasWords, IsFrontEnd, MayPack, all_words, has_matches, size_of};
+ghost use Rattle.ac_engines.specs.Contiguous.Plans.{ArePlaces, HasFormat, HasMatchLen, HasWords, IsFrontEnd, IsMemoryUnless, MayPack, all_words, has_matches, size_of};
 
-use super::format::{Format, format_of, state_words};
+use super::format::{Format, check_words, format_of, state_words};
 use ac_automaton::automaton::Automaton;
 use ac_automaton::nfa::noncontiguous::{DEAD, FIRST_INNER, NFA, START};
 use ac_util::alphabet::ByteClasses;
+use ac_util::error::BuildError;
 use ac_util::primitives::StateID;
-use std::alloc::Allocator;
+use std::alloc::{AllocError, Allocator};
 use std::marker::Model;
 
 /// What states are packed from: a trie, the class of each byte, and the length below which states are dense.
@@ -147,14 +148,17 @@ impl<'a, A: Allocator + Clone> Plan<'a, A> {
     /// Returns the number of each state of the trie, which is the address of its first word, and how many words there
     /// are. States that have matches come first, up to the address that is passed, and the others after them.
     ///
-    /// Returns `None` where a request for memory is refused, and where a number would be too great.
-    pub(super) fn numbers(&self, alloc: &A, match_end: u64) -> Option<Numbers<A>>
+    /// # Errors
+    /// `StateIdOverflow` where a number would be too great: then there are too many words. `Memory` where a request for
+    /// memory is refused.
+    pub(super) fn numbers(&self, alloc: &A, match_end: u64) -> Result<Numbers<A>, BuildError>
         requires may { (nodes : List Node) × MayPack self.now nodes }
         requires front { IsFrontEnd self.now match_end }
-        ensures places { IfSome result (λ numbers. ArePlaces self.now numbers.list.items) }
-        ensures all { IfSome result (λ numbers. numbers.all ≡ all_words self.now) }
+        ensures places { IfOk result (λ numbers. ArePlaces self.now numbers.list.items) }
+        ensures all { IfOk result (λ numbers. numbers.all ≡ all_words self.now) }
+        ensures refused { IfErr result (IsMemoryUnless (all_words self.now)) }
     {
-        let mut list = first_numbers(alloc.clone().ok()?, self.nfa.states_len())?;
+        let mut list = first_numbers(alloc.clone()?, self.nfa.states_len())?;
         let mut front = self.dead_words();
         let mut back = match_end;
         for state in START..self.nfa.states_len() {
@@ -168,26 +172,33 @@ impl<'a, A: Allocator + Clone> Plan<'a, A> {
                 back += words;
             }
         }
-        Some(Numbers { list, all: back })
+        Ok(Numbers { list, all: back })
     }
 }
 
-/// Returns the places of the dead state and of the one that no search reaches, with room for those of all states, or
-/// `None` where a request for memory is refused.
-fn first_numbers<A: Allocator>(alloc: A, states: usize) -> Option<Vec<StateID, A>>
-    ensures { IfSome result (λ numbers. numbers.items ≡ 0 ∷ 0 ∷ []) }
+/// Returns the places of the dead state and of the one that no search reaches, with room for those of all states.
+///
+/// # Errors
+/// `AllocError` where a request for memory is refused.
+fn first_numbers<A: Allocator>(alloc: A, states: usize) -> Result<Vec<StateID, A>, AllocError>
+    ensures { IfOk result (λ numbers. numbers.items ≡ 0 ∷ 0 ∷ []) }
 {
-    let mut numbers = Vec::with_capacity(alloc, states).ok()?;
-    push_number(&mut numbers, DEAD as u64)?;
-    push_number(&mut numbers, DEAD as u64)?;
-    Some(numbers)
+    let mut numbers = Vec::with_capacity(alloc, states)?;
+    numbers.push(StateID::must(DEAD))?;
+    numbers.push(StateID::must(DEAD))?;
+    Ok(numbers)
 }
 
-/// Appends a number to a list. Returns `None` where a request for memory is refused, and where it is too great.
-fn push_number<A: Allocator>(list: &mut Vec<StateID, A>, number: u64) -> Option<()>
-    ensures small { IfSome result (λ _. number ≤ GREATEST) }
-    ensures items { IfSome result (λ _. list.new.items ≡ list.old.items ++ number ∷ []) }
+/// Appends a number to a list.
+///
+/// # Errors
+/// `StateIdOverflow` where it is too great, `Memory` where a request for memory is refused.
+fn push_number<A: Allocator>(list: &mut Vec<StateID, A>, number: u64) -> Result<(), BuildError>
+    ensures small { IfOk result (λ _. number ≤ GREATEST) }
+    ensures items { IfOk result (λ _. list.new.items ≡ list.old.items ++ number ∷ []) }
+    ensures refused { IfErr result (IsMemoryUnless number) }
 {
-    let number = StateID::new(number as usize).ok()?;
-    list.push(number).ok()
+    let number = check_words(number)?;
+    list.push(StateID::must(number as usize))?;
+    Ok(())
 }

@@ -10,14 +10,14 @@ pub pack-requires-clause-ready : goal.pack-requires-clause-ready
 pack-requires-clause-ready g c =
     let nodes = c.new-plan.ensures.may in (
       nodes.0,
-      record { may = nodes.1; places = rw c.deref.ensures.value (c.in-Some.ensures.places nodes.0 nodes.1) },
+      record { may = nodes.1; places = rw c.deref.ensures.value (c.in-Ok.ensures.places nodes.0 nodes.1) },
     )
 
 pub index-requires : goal.index-requires
-index-requires g c = search (rules, starts-placed c.new-plan.result (c.new-plan.ensures.may).0 c.in-Some.numbers.list.items (c.new-plan.ensures.may).1 (c.in-Some.ensures.places (c.new-plan.ensures.may).0 (c.new-plan.ensures.may).1))
+index-requires g c = search (rules, starts-placed c.new-plan.result (c.new-plan.ensures.may).0 c.in-Ok.numbers.list.items (c.new-plan.ensures.may).1 (c.in-Ok.ensures.places (c.new-plan.ensures.may).0 (c.new-plan.ensures.may).1))
 
 pub index-requires-2 : goal.index-requires-2
-index-requires-2 g c = search (rules, starts-placed c.new-plan.result (c.new-plan.ensures.may).0 c.in-Some.numbers.list.items (c.new-plan.ensures.may).1 (c.in-Some.ensures.places (c.new-plan.ensures.may).0 (c.new-plan.ensures.may).1))
+index-requires-2 g c = search (rules, starts-placed c.new-plan.result (c.new-plan.ensures.may).0 c.in-Ok.numbers.list.items (c.new-plan.ensures.may).1 (c.in-Ok.ensures.places (c.new-plan.ensures.may).0 (c.new-plan.ensures.may).1))
 
 -- the words stand for the nodes
 pub invariant_of-result : goal.invariant_of-result
@@ -25,8 +25,8 @@ invariant_of-result g c =
     let nodes = c.new-plan.ensures.may in
     let plan = c.new-plan.ensures.value in
     let numbers = c.deref.ensures.value in
-    let placed = starts-placed c.new-plan.result nodes.0 c.in-Some.numbers.list.items nodes.1
-    (c.in-Some.ensures.places nodes.0 nodes.1) in
+    let placed = starts-placed c.new-plan.result nodes.0 c.in-Ok.numbers.list.items nodes.1
+    (c.in-Ok.ensures.places nodes.0 nodes.1) in
     let common : c.in_ok-clone.field-0 ≡ common_of c.args.nfa.now.built c.args.nfa.now.wants_prefilter =
     c.in_ok-clone.ensures.cases ∙ c.common.ensures in (
       places_of c.new-plan.result nodes.0 c.deref.result.now,
@@ -37,11 +37,11 @@ invariant_of-result g c =
           (common ∙ ap (λ (q : PackPlan). common_of q.trie.built q.trie.wants_prefilter) (sym plan))
           nodes.1.are_nodes.is_trie.both
           (ap (λ (q : PackPlan). q.dense_depth) (sym plan)) (ap (λ (q : PackPlan). q.classes) (sym plan))
-          (read-number c.in-Some.numbers.list.items c.deref.result.now START c.index.result.now
+          (read-number c.in-Ok.numbers.list.items c.deref.result.now START c.index.result.now
           (omega (arith, placed)) (sym numbers) c.index.ensures)
-          (read-number c.in-Some.numbers.list.items c.deref.result.now ANCHORED_START c.index-2.result.now
+          (read-number c.in-Ok.numbers.list.items c.deref.result.now ANCHORED_START c.index-2.result.now
           placed (sym numbers) c.index-2.ensures)
           (c.front_end-match_end.ensures nodes.0 nodes.1)))
           (c.in_ok-words.ensures.packed nodes.0
-          (record { may = nodes.1; places = rw numbers (c.in-Some.ensures.places nodes.0 nodes.1) })),
+          (record { may = nodes.1; places = rw numbers (c.in-Ok.ensures.places nodes.0 nodes.1) })),
     )

@@ -1,7 +1,8 @@
-use Rattle.std.proofs.Common.{◌≡◌, ◌+◌, ℕ, Bool, List, Some, slice_get, true, false, length, ap, refl, sym, ◌∙◌, arith, rules}
+use Rattle.std.proofs.Common.{◌≡◌, ◌+◌, ◌≤◌, ℕ, Bool, List, Some, slice_get, true, false, inl, inr, length, ap, refl, sym, ◌∙◌, arith, rules}
 use Rattle.ac_util.specs.Node.{Node}
-use Rattle.ac_engines.specs.Contiguous.Plans.{MayPack, size_of}
-use Rattle.ac_engines.proofs.PlanSums.{TakesSize, before, before-starts, has-words, named-below, placed-more, places-first, plan-states, sizes-whole, takes}
+use Rattle.ac_automaton.specs.Util.{BuildError}
+use Rattle.ac_engines.specs.Contiguous.Plans.{IsMemoryUnless, MayPack, all_words, size_of}
+use Rattle.ac_engines.proofs.PlanSums.{TakesSize, back-within, before, before-starts, front-within, has-words, named-below, placed-more, places-first, plan-states, sizes-whole, takes}
 use Rattle.ac_engines.proofs.nfa.contiguous.plan.Plan.numbers.Goals.{then-is_match+in_ok-push_number, else-is_match+in_ok-push_number-2}
 use Rattle.ac_engines.proofs.nfa.contiguous.plan.Plan.numbers.Goals as goal
 
@@ -21,6 +22,27 @@ words-words-requires g c = search (rules, has-words)
 -- the state is the same
 pub is_match-requires : goal.is_match-requires
 is_match-requires g c = search (rules, has-words)
+
+-- a number that is too great lies within the words of the plan
+refused-more : (n m : ℕ) (e : BuildError) → n ≤ m → IsMemoryUnless n e → IsMemoryUnless m e
+refused-more n m e within (inl memory) = inl memory
+refused-more n m e within (inr great) = inr (omega arith)
+
+pub returns-in_err-push_number-clause-refused : goal.returns-in_err-push_number-clause-refused
+returns-in_err-push_number-clause-refused g c =
+    let (nodes, may) = c.requires.may in
+    let within = front-within c.args.self.now nodes may _ _ _ c.self.view_is c.states_len-state-end.ensures.value c.loop-state-test.true in
+    let more = refused-more c.loop-state.front (all_words c.args.self.now) c.in_err-push_number.field-0.0
+    (omega (arith, (c.loop-state.invariant nodes may).front_is, within)) c.in_err-push_number.ensures.refused in
+    search (rules, more)
+
+pub returns-in_err-push_number-2-clause-refused : goal.returns-in_err-push_number-2-clause-refused
+returns-in_err-push_number-2-clause-refused g c =
+    let (nodes, may) = c.requires.may in
+    let within = back-within c.args.self.now nodes may _ _ _ c.self.view_is c.states_len-state-end.ensures.value c.loop-state-test.true in
+    let more = refused-more c.loop-state.back (all_words c.args.self.now) c.in_err-push_number-2.field-0.0
+    (omega (arith, (c.loop-state.invariant nodes may).back_is, within)) c.in_err-push_number-2.ensures.refused in
+    search (rules, more)
 
 -- one state more has its place, in front or among the others
 pub loop-state-preserved : goal.loop-state-preserved
