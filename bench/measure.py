@@ -171,7 +171,7 @@ class Bench:
     """The program, the folder of haystacks, and what was asked for."""
 
     def __init__(self, asked, folder):
-        self.acs, self.folder, self.times = asked.acs, folder, asked.times
+        self.acs, self.other, self.folder, self.times = asked.acs, asked.beside, folder, asked.times
         self.size, self.quick = asked.mb * 1000000, asked.quick
         self.names = haystacks.chosen(asked.sets.split(","))
         self.out = self.path("out")
@@ -191,9 +191,9 @@ class Bench:
         """Returns where the haystack of a set is."""
         return self.path(name.split("-")[0] + ".hay")
 
-    def search(self, engine, patterns, hay=os.devnull, mode="walk", kind="std", out=os.devnull):
-        """Returns the command of a search."""
-        return Command([self.acs, mode, kind, engine], patterns, hay, out)
+    def search(self, engine, patterns, hay=os.devnull, mode="walk", kind="std", out=os.devnull, acs=None):
+        """Returns the command of a search, by the program or by another one."""
+        return Command([acs or self.acs, mode, kind, engine], patterns, hay, out)
 
     def idle(self, patterns, mode="walk"):
         """Returns a command that takes the same words, and is refused for the name of its engine."""
@@ -276,6 +276,30 @@ class Bench:
                         + ["%s / %s" % (number(above(best[engine].seconds, best["idle"].seconds) * 1e3),
                                         number(above(peak_of(commands[engine]), words))) for engine in ENGINES])
         table(["Set", "pattern bytes"] + list(ENGINES), rows)
+
+    def beside(self):
+        """Prints how many times as fast as another program with the same command line this one is, run alternately.
+
+        An engine that the other has not is measured beside its noncontiguous one.
+        """
+        print("### Beside another program: a Standard walk, MB/s; the other's time over its own, of the walk and of a build\n")
+        rows, all_ratios, ours = [], {engine: [] for engine in ENGINES}, self.acs
+        for name in self.names:
+            progress("beside " + name)
+            patterns, cells = self.patterns(name), []
+            for engine in ENGINES:
+                has = run(self.search(engine, patterns, acs=self.other)).status in (0, 1)
+                pair = {ours: engine, self.other: engine if has else "noncontiguous"}
+                walks = {acs: self.search(by, patterns, self.hay(name), acs=acs) for acs, by in pair.items()}
+                builds = {acs: self.search(by, patterns, acs=acs) for acs, by in pair.items()}
+                builds.update(((acs, "idle"), self.search("-", patterns, acs=acs)) for acs in pair)
+                walked, built = best_of(walks, self.times), best_of(builds, 4 * self.times)
+                all_ratios[engine].append(walked[self.other].seconds / walked[ours].seconds)
+                spent = [above(built[acs].seconds, built[acs, "idle"].seconds) * 1e3 for acs in pair]
+                cells.append("%s; %.2f, %s" % (speed(walked[ours], self.hay(name)), all_ratios[engine][-1], ratios(spent)))
+            rows.append(["`%s`" % name] + cells)
+        means = [math.exp(sum(map(math.log, many)) / len(many)) for many in all_ratios.values()]
+        table(["Set"] + list(ENGINES), rows + [["walks, geometric mean"] + ["%.2f" % it for it in means]])
 
     def kinds(self):
         """Prints how fast each mode is under each match kind."""
@@ -438,6 +462,7 @@ def options():
     parser.add_argument("--built-from", help="what it was built from, to be printed")
     parser.add_argument("--sets", default=USUAL_SETS, help="names of sets, with * for anything, and commas between")
     parser.add_argument("--parts", default="start_up,sets,builds,kinds,skips,growth", help="which tables to print")
+    parser.add_argument("--beside", help="another program with the same command line, for one more table, `beside`")
     parser.add_argument("--mb", type=int, default=16, help="how many million bytes a haystack has (16)")
     parser.add_argument("--times", type=int, default=5, help="of how many runs the best counts (5)")
     parser.add_argument("--cpu", type=int, help="the core that all runs are held to")
@@ -446,6 +471,9 @@ def options():
     asked.acs = os.path.abspath(asked.acs)
     if not os.access(asked.acs, os.X_OK):
         parser.error("no such program: " + asked.acs)
+    if asked.beside:
+        asked.beside = os.path.abspath(asked.beside)
+        asked.parts += ",beside"
     if asked.quick:
         asked.mb, asked.times = 1, 2
         asked.sets = "prose-10-*,prose-1000-long-rare,links-1-*,mass-10-*" if asked.sets == USUAL_SETS else asked.sets
