@@ -15,7 +15,5 @@ pub mod reader;
 pub mod replace;
 pub mod search;
 pub mod status;
-#[cfg(test)]
-mod tests;
 pub mod texts;
 pub mod walk;

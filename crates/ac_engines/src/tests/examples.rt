@@ -10,16 +10,26 @@ use ac_util::search::{Anchored, Input, Match, MatchKind, StartKind};
 use std::test::Fail;
 
 #[test]
-fn engines(rt: HostRuntime) -> Result<(), Fail> {
+fn a_noncontiguous_nfa(rt: HostRuntime) -> Result<(), Fail> {
     let alloc = rt.alloc();
     let nfa = noncontiguous::NFA::new(alloc, &[b"he", b"she"])?;
     let found = nfa.try_find(Input::new(b"ushers"))?;
     assert_eq!(rt; found, Some(Match::must(1, 1..4)));
+    Ok(())
+}
 
+#[test]
+fn a_contiguous_nfa(rt: HostRuntime) -> Result<(), Fail> {
+    let alloc = rt.alloc();
     let nfa = contiguous::NFA::new(alloc, &[b"he", b"she"])?;
     let found = nfa.try_find(Input::new(b"ushers"))?;
     assert_eq!(rt; found, Some(Match::must(1, 1..4)));
+    Ok(())
+}
 
+#[test]
+fn a_dfa(rt: HostRuntime) -> Result<(), Fail> {
+    let alloc = rt.alloc();
     let dfa = dfa::DFA::new(alloc, &[b"he", b"she"])?;
     let found = dfa.try_find(Input::new(b"ushers"))?;
     assert_eq!(rt; found, Some(Match::must(1, 1..4)));
@@ -82,7 +92,7 @@ fn states_are_stepped_through(rt: HostRuntime) -> Result<(), Fail> {
 }
 
 #[test]
-fn one_engine_from_another(rt: HostRuntime) -> Result<(), Fail> {
+fn a_dfa_from_a_noncontiguous_nfa(rt: HostRuntime) -> Result<(), Fail> {
     let alloc = rt.alloc();
     let nfa = noncontiguous::NFA::new(alloc, &[b"he", b"she"])?;
     let builder = dfa::Builder::new();
@@ -90,7 +100,12 @@ fn one_engine_from_another(rt: HostRuntime) -> Result<(), Fail> {
     let dfa = builder.build_from_noncontiguous(alloc, &nfa)?;
     let found = dfa.try_find(Input::new(b"ushers"))?;
     assert_eq!(rt; found, Some(Match::must(1, 1..4)));
+    Ok(())
+}
 
+#[test]
+fn a_contiguous_nfa_from_another(rt: HostRuntime) -> Result<(), Fail> {
+    let alloc = rt.alloc();
     let nfa = noncontiguous::NFA::new(alloc, &[b"he", b"she"])?;
     let builder = contiguous::Builder::new();
     assert!(rt; builder.fits(&nfa));

@@ -199,16 +199,28 @@ fn compare_walk<E: Automaton + Clone + Debug + Drop>(
     Ok(())
 }
 
-/// Compares what each engine answers with what a row says, the DFA with both starts and with one.
-fn compare_engines(rt: &impl Abort, alloc: Global, row: &Row) -> Result<(), Fail> {
+/// Compares what a DFA answers with what a row says, with both starts and with one.
+fn compare_dfas(
+    rt: &impl Abort,
+    alloc: Global,
+    trie: &noncontiguous::NFA,
+    row: &Row,
+) -> Result<(), Fail> {
     let start_kind = match row.0.2 {
         No => StartKind::Unanchored,
         Yes => StartKind::Anchored,
     };
+    for start_kind in [StartKind::Both, start_kind] {
+        compare_walk(rt, alloc, dfa_over(alloc, trie, start_kind)?, row)?;
+    }
+    Ok(())
+}
+
+/// Compares what each engine answers with what a row says.
+fn compare_engines(rt: &impl Abort, alloc: Global, row: &Row) -> Result<(), Fail> {
     let trie = trie_of(alloc, row.0, row.1)?;
+    compare_dfas(rt, alloc, &trie, row)?;
     compare_walk(rt, alloc, contiguous_over(alloc, &trie)?, row)?;
-    compare_walk(rt, alloc, dfa_over(alloc, &trie, StartKind::Both)?, row)?;
-    compare_walk(rt, alloc, dfa_over(alloc, &trie, start_kind)?, row)?;
     compare_walk(rt, alloc, trie, row)
 }
 
@@ -324,14 +336,19 @@ fn compare_shown<A: Debug>(alloc: Global, automaton: &A, wanted: &str) -> Result
 }
 
 #[test]
-fn engines_are_shown(rt: HostRuntime) -> Result<(), Fail> {
+fn nfas_are_shown(rt: HostRuntime) -> Result<(), Fail> {
     let alloc = rt.alloc();
     let trie = noncontiguous::NFA::new(alloc, &[b"a", b"b"])?;
     let wanted = "NFA { match_kind: Standard, patterns: 2 }";
     compare_shown(alloc, &trie, wanted)?;
-    compare_shown(alloc, &contiguous_over(alloc, &trie)?, wanted)?;
+    compare_shown(alloc, &contiguous_over(alloc, &trie)?, wanted)
+}
+
+#[test]
+fn a_dfa_is_shown(rt: HostRuntime) -> Result<(), Fail> {
+    let dfa = dfa::DFA::new(rt.alloc(), &[b"a", b"b"])?;
     let wanted = "DFA { match_kind: Standard, patterns: 2 }";
-    compare_shown(alloc, &dfa_over(alloc, &trie, StartKind::Both)?, wanted)
+    compare_shown(rt.alloc(), &dfa, wanted)
 }
 
 /// A stream that is refused.

@@ -150,8 +150,27 @@ fn exchanged_stream(
     Ok(writer)
 }
 
+/// Compares what closures exchange, in text, in bytes and in a stream, with what a list does.
+fn compare_closures(
+    rt: &impl Abort,
+    alloc: Global,
+    searcher: &AhoCorasick,
+    haystack: &[u8],
+    replaced: &[u8],
+) -> Result<(), Fail> {
+    let text = exchanged_text(alloc, searcher, str::from_utf8(haystack)?)?;
+    same_by(rt, text.as_bytes() == replaced, true, &"text");
+    drop(text);
+    let bytes = exchanged_bytes(alloc, searcher, haystack)?;
+    same_by(rt, bytes.as_slice() == replaced, true, &"bytes");
+    drop(bytes);
+    let writer = exchanged_stream(alloc, searcher, haystack)?;
+    same_by(rt, writer.bytes() == replaced, true, &"stream");
+    Ok(())
+}
+
 /// Compares how many matches a walk has, each of which is a byte, and how long all is with each exchanged for two bytes.
-/// What closures exchange is the same, in text, in bytes and in a stream.
+/// What closures exchange is the same.
 fn compare_many(
     rt: &impl Abort,
     alloc: Global,
@@ -167,13 +186,7 @@ fn compare_many(
     let haystack = input.haystack();
     let replaced = searcher.try_replace_all_bytes(alloc, haystack, &[TEXT.as_bytes()])?;
     same_by(rt, replaced.len(), 2 * LONG, &searcher.kind());
-    let text = exchanged_text(alloc, searcher, str::from_utf8(haystack)?)?;
-    assert!(rt; text.as_bytes() == replaced.as_slice());
-    let bytes = exchanged_bytes(alloc, searcher, haystack)?;
-    assert!(rt; bytes.as_slice() == replaced.as_slice());
-    let writer = exchanged_stream(alloc, searcher, haystack)?;
-    assert!(rt; writer.bytes() == replaced.as_slice());
-    Ok(())
+    compare_closures(rt, alloc, searcher, haystack, &replaced)
 }
 
 /// Each engine over more than a million matches, exchanged too, by each kind and with each start.

@@ -7,7 +7,7 @@ use ac_search::MatchKind::{LeftmostFirst, LeftmostLongest, Standard};
 use ac_search::plain::{Query, replace_walk, walk};
 use ac_search::{
     AhoCorasick, AhoCorasickBuilder, Anchored, FromRead, Match, MatchKind, Sink, StreamError,
-    Written,
+    StreamFindIter, Written,
 };
 use std::alloc::Global;
 use std::io;
@@ -164,6 +164,25 @@ impl<'a> Wanted<'a> {
     }
 }
 
+/// Returns how many of the wanted matches a stream gives before it ends or fails, and whether it ends; or `None` where it gives
+/// another one.
+fn given_by<'a>(
+    matches: &mut StreamFindIter<'a, FromRead<Cut<'_>>>,
+    wanted: &[Match],
+) -> Option<(usize, bool)> {
+    let mut given = 0_usize;
+    loop {
+        match matches.next() {
+            None => return Some((given, true)),
+            Some(Err(_)) => return Some((given, false)),
+            Some(Ok(found)) if Some(&found) == wanted.get(given) => {
+                given = given.saturating_add(1);
+            }
+            Some(Ok(_)) => return None,
+        }
+    }
+}
+
 /// Returns whether a stream has these matches to its end; or where it fails, so many of them as settle it up to where bytes are
 /// kept.
 fn gives(
@@ -174,18 +193,8 @@ fn gives(
 ) -> Result<bool, Fail> {
     let fails = reader.fails;
     let mut matches = searcher.try_stream_find_iter(alloc, FromRead::new(reader))?;
-    let mut given = 0_usize;
-    let ended = loop {
-        match matches.next() {
-            None => break true,
-            Some(Err(_)) => break false,
-            Some(Ok(found)) => {
-                if Some(&found) != wanted.walk.get(given) {
-                    return Ok(false);
-                }
-                given = given.saturating_add(1);
-            }
-        }
+    let Some((given, ended)) = given_by(&mut matches, &wanted.walk) else {
+        return Ok(false);
     };
     let kept = matches.kept_len();
     let ends_so = if fails {

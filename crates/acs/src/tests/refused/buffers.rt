@@ -3,7 +3,7 @@ use super::SENTENCE;
 use super::builds::{ENGINES, STARTS, SearcherBuild};
 use super::heaps::{AMPLE, filled};
 use ac_search::MatchKind::{LeftmostFirst, LeftmostLongest, Standard};
-use ac_search::{AhoCorasick, Bytes, MatchKind};
+use ac_search::{AhoCorasick, Bytes, MatchKind, StreamFindIter};
 use linked_list_allocator::LocalHeap;
 use std::alloc::{Allocator, Global};
 use std::test::Fail;
@@ -18,7 +18,24 @@ const WALKS: [(MatchKind, [(usize, usize); 3]); 3] = [
 /// How many bytes the heap has beside the buffer.
 const BESIDE: usize = 1 << 10;
 
-/// Tests that a stream whose buffer is in a heap gives these matches and no more, where the heap refuses each further request.
+/// Tests that a walk of a stream gives these matches and no more.
+fn gives<'a, Z: Allocator>(
+    matches: &mut StreamFindIter<'a, Bytes<'a>, Global, Z>,
+    walk: [(usize, usize); 3],
+) -> Result<(), Fail> {
+    for wanted in walk {
+        let found = matches.next().transpose()?;
+        if found.map(|m| (m.pattern().as_usize(), m.end())) != Some(wanted) {
+            return Err(Fail::new(format_args!("{wanted:?} is not given")));
+        }
+    }
+    if matches.next().is_some() {
+        return Err(Fail::new("another match"));
+    }
+    Ok(())
+}
+
+/// Does so where its buffer is in a heap, which refuses each further request.
 fn gives_in_a_full_heap<Z: Allocator>(
     alloc: Global,
     searcher: &AhoCorasick,
@@ -31,17 +48,9 @@ fn gives_in_a_full_heap<Z: Allocator>(
     let mut matches = searcher.stream_find_iter(room, Bytes::new(SENTENCE.as_bytes()))?;
     let pieces = filled(alloc, heap)?;
     let used = heap.used();
-    if used < AMPLE + BESIDE {
-        return Err(Fail::new("memory is left"));
-    }
-    for wanted in walk {
-        let found = matches.next().transpose()?;
-        if found.map(|m| (m.pattern().as_usize(), m.end())) != Some(wanted) {
-            return Err(Fail::new(format_args!("{wanted:?} is not given")));
-        }
-    }
-    if matches.next().is_some() || heap.used() != used {
-        return Err(Fail::new("another match, or memory is taken"));
+    gives(&mut matches, walk)?;
+    if used < AMPLE + BESIDE || heap.used() != used {
+        return Err(Fail::new("memory is left, or is taken"));
     }
     drop(pieces);
     Ok(())

@@ -2,7 +2,7 @@
 ghost use Rattle.std.specs.Prelude.{◌≡◌, length};
 
 use super::{Call, Trial};
-use ac_search::{AhoCorasick, FromRead, IntoWrite, Match, StreamError};
+use ac_search::{AhoCorasick, FromRead, IntoWrite, Match, Source, StreamError, StreamFindIter};
 use std::alloc::{Allocator, Global};
 use std::test::Fail;
 
@@ -46,18 +46,25 @@ fn has_buffer(
     }
 }
 
+/// Tests that a walk of the stream has its two matches.
+fn gives_both<'a, R: Source + Drop, A: Allocator>(
+    matches: &mut StreamFindIter<'a, R, Global, A>,
+) -> Result<(), Fail> {
+    for end in [Some(5), Some(8), None] {
+        let found = matches.next().transpose()?;
+        if found.map(|m| m.end()) != end {
+            return Err(Fail::new("another match"));
+        }
+    }
+    Ok(())
+}
+
 /// Walks a stream, and tests that it has two matches.
 fn walks<A: Allocator>(searcher: &AhoCorasick, alloc: A) -> Result<bool, Fail> {
     let mut left = STREAM;
-    let reader = FromRead::new(&mut left);
-    let answer = match searcher.try_stream_find_iter(alloc, reader) {
+    let answer = match searcher.try_stream_find_iter(alloc, FromRead::new(&mut left)) {
         Ok(mut matches) => {
-            for end in [Some(5), Some(8), None] {
-                let found = matches.next().transpose()?;
-                if found.map(|m| m.end()) != end {
-                    return Err(Fail::new("another match"));
-                }
-            }
+            gives_both(&mut matches)?;
             Ok(())
         }
         Err(e) => Err(e),
