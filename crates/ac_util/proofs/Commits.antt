@@ -1,6 +1,7 @@
 -- What a walk gives of a string whatever follows it, one byte more at a time.
 use Rattle.std.proofs.Common.{◌≡◌, ℕ, suc, ◌+◌, ◌-◌, ◌<◌, ◌≤◌, true, List, [], ◌∷◌, ◌++◌, length, length-append, length-drop, map, drop, refl, ap, sym, ◌∙◌, arith, None, Some, rules}
-use Rattle.std.proofs.lemmas.List.{append_assoc, drop-append-le, drop-drop, map-append}
+use Rattle.std.specs.Bool.{⊤}
+use Rattle.std.proofs.lemmas.List.{append-nil, append_assoc, drop-append-le, drop-drop, map-append}
 use Rattle.ac_util.specs.Prelude.{from, Node, is_leftmost, last_end, matches, MatchKind, No, Occurrence, outward, pattern_of, reached, Search, step, text, walk}
 use Rattle.ac_util.proofs.Advance.{pick-stays}
 use Rattle.ac_util.proofs.Found.{matches-reached}
@@ -9,16 +10,26 @@ use Rattle.ac_util.proofs.Reached.{reached-nil, step-reached}
 use Rattle.ac_util.proofs.Spans.{text_length}
 use Rattle.ac_util.proofs.Standing.{IsPickIn, Stands-end}
 use Rattle.ac_util.proofs.NodeRests.{IsRest, pick-in_node, reached-rest}
-use Rattle.ac_util.proofs.PickedWalks.{IsSearchFor, search-from, text-from, walk-dead}
+use Rattle.ac_util.proofs.PickedWalks.{IsSearchFor, search-from, text-from, walk-dead, walk-none, walk-whole}
 
--- a text begins with w and then with z. Whatever follows, its walk gives these matches first, all within w, and goes on from
--- the end of the last; and what w has from there on leads to the node v
-pub record Commits (kind : MatchKind) (patterns : List (List ℕ)) (w z : List ℕ) (ms : List Occurrence) (v : List ℕ)
-    : Type 0 where
-  pub gives : (q : Search) (y : List ℕ) → IsSearchFor patterns q → text q ≡ w ++ (z ++ y)
+-- a text begins with w. Whatever follows that is such, its walk gives these matches first, all within w, and goes on from the
+-- end of the last; and what w has from there on leads to the node v
+pub record Commits (kind : MatchKind) (patterns : List (List ℕ)) (w : List ℕ) (Follows : List ℕ → Type 0)
+    (ms : List Occurrence) (v : List ℕ) : Type 0 where
+  pub gives : (q : Search) (y : List ℕ) → IsSearchFor patterns q → text q ≡ w ++ y → Follows y
       → walk kind q ≡ map (outward q.low) ms ++ walk kind (from q (q.low + last_end ms))
   pub within : last_end ms ≤ length w
   pub stands : reached kind patterns No (drop (last_end ms) w) ≡ Some v
+
+-- what may follow: anything, something that begins with a byte, or nothing
+abbrev pub Anything : List ℕ → Type 0
+Anything y = ⊤
+
+abbrev pub Next : ℕ → List ℕ → Type 0
+Next b y = (rest : List ℕ) × (y ≡ b ∷ rest)
+
+abbrev pub Nothing : List ℕ → Type 0
+Nothing y = y ≡ []
 
 -- where the last of some matches ends, with others after them
 last_end-others : (ms : List Occurrence) (m : Occurrence) (ns : List Occurrence) → last_end (ms ++ m ∷ ns) ≡ last_end (m ∷ ns)
@@ -44,27 +55,28 @@ map-outward a b (m ∷ ms) = search (rules, same_occurrence, map-outward a b ms)
 module _ (kind : MatchKind) (patterns : List (List ℕ)) (leftmost : is_leftmost kind ≡ true)
     (some : (n : ℕ) → n < length patterns → 0 < length (pattern_of patterns n)) where
   -- nothing is given of the empty string
-  pub commits-nil : Commits kind patterns [] [] [] []
+  pub commits-nil : Commits kind patterns [] Anything [] []
   commits-nil = record {
-    gives = λ q y is reads. ap (λ (k : ℕ). walk kind (from q k)) (omega arith);
+    gives = λ q y is reads follows. ap (λ (k : ℕ). walk kind (from q k)) (omega arith);
     within = omega arith;
     stands = reached-nil kind patterns No;
   }
 
-  module _ (w : List ℕ) (ms : List Occurrence) (v : List ℕ) (b : ℕ) where
-    -- what is given whatever follows is given where b follows
-    pub commits-before : Commits kind patterns w [] ms v → Commits kind patterns w (b ∷ []) ms v
-    commits-before c = record {
-      gives = λ q y is reads. c.gives q (b ∷ y) is reads;
+  module _ (w : List ℕ) (ms : List Occurrence) (v : List ℕ) where
+    -- what is given whatever follows is given where this does
+    pub commits-where : (Follows : List ℕ → Type 0) → Commits kind patterns w Anything ms v
+        → Commits kind patterns w Follows ms v
+    commits-where Follows c = record {
+      gives = λ q y is reads follows. c.gives q y is reads tt;
       within = c.within;
       stands = c.stands;
     }
 
     -- b leads on from the node
-    pub commits-on : (u : List ℕ) → Commits kind patterns w (b ∷ []) ms v
-        → step kind patterns No (Some v) b ≡ Some u → Commits kind patterns (w ++ b ∷ []) [] ms u
-    commits-on u c leads = record {
-      gives = λ q y is reads. c.gives q y is (reads ∙ append_assoc w (b ∷ []) y);
+    pub commits-on : (b : ℕ) (u : List ℕ) → Commits kind patterns w (Next b) ms v
+        → step kind patterns No (Some v) b ≡ Some u → Commits kind patterns (w ++ b ∷ []) Anything ms u
+    commits-on b u c leads = record {
+      gives = λ q y is reads follows. c.gives q (b ∷ y) is (reads ∙ append_assoc w (b ∷ []) y) (y, refl);
       within = (let l = length-append w (b ∷ []) in let i = c.within in omega arith);
       stands =
           ap (reached kind patterns No) (drop-append-le (last_end ms) w (b ∷ []) c.within)
@@ -72,29 +84,19 @@ module _ (kind : MatchKind) (patterns : List (List ℕ)) (leftmost : is_leftmost
           ∙ ap (λ (n : Node). step kind patterns No n b) c.stands ∙ leads;
     }
 
-    -- b leads to the dead node: then the pick of the node is given, and what its rest gives
-    module _ (c : Commits kind patterns w (b ∷ []) ms v) (dead : step kind patterns No (Some v) b ≡ None)
-        (m : Occurrence) (picked : IsPickIn kind patterns No v (Some m)) (ns : List Occurrence) (u : List ℕ)
-        (rest : Commits kind patterns (drop m.end v) [] ns u) where
-      -- the pick among what was read, and what follows it
+    -- the node has a pick
+    module _ (Follows : List ℕ → Type 0) (c : Commits kind patterns w Follows ms v) (m : Occurrence)
+        (picked : IsPickIn kind patterns No v (Some m)) where
+      -- the pick among what was read
       abbrev pub given-next : Occurrence
       given-next = outward (length w - length v) m
-
-      abbrev pub given-on : List Occurrence
-      given-on = ms ++ given-next ∷ map (outward given-next.end) ns
 
       -- the place of the node in what follows the matches before
       abbrev since : List ℕ
       since = drop (last_end ms) w
 
-      since-is : (place : ℕ) × IsRest since v place
+      pub since-is : (place : ℕ) × IsRest since v place
       since-is = reached-rest kind patterns since v c.stands
-
-      -- it leads to the dead node with b
-      since-dead : reached kind patterns No (since ++ b ∷ []) ≡ None
-      since-dead =
-          sym (step-reached kind patterns No since b)
-          ∙ ap (λ (n : Node). step kind patterns No n b) c.stands ∙ dead
 
       place-is : last_end ms + since-is.0 ≡ length w - length v
       place-is =
@@ -103,12 +105,6 @@ module _ (kind : MatchKind) (patterns : List (List ℕ)) (leftmost : is_leftmost
       -- there the pick is that of the node
       since-picked : IsPickIn kind patterns No since (Some (outward since-is.0 m))
       since-picked = pick-in_node kind patterns leftmost since v since-is.0 since-is.1 c.stands (Some m) picked
-
-      -- b changes nothing about it
-      since-stays : IsPickIn kind patterns No (since ++ b ∷ []) (Some (outward since-is.0 m))
-      since-stays =
-          pick-stays kind patterns No since b (Some (outward since-is.0 m))
-          (sym (matches-reached kind patterns No (since ++ b ∷ [])) ∙ ap (matches kind patterns No) since-dead) since-picked
 
       pick-within : m.end ≤ length v
       pick-within =
@@ -120,97 +116,154 @@ module _ (kind : MatchKind) (patterns : List (List ℕ)) (leftmost : is_leftmost
           ap (λ (k : ℕ). drop k w) (sym place-is)
           ∙ sym (drop-drop since-is.0 (last_end ms) w) ∙ since-is.1.is
 
-      last-is : last_end given-on ≡ given-next.end + last_end ns
-      last-is = last_end-others ms given-next (map (outward given-next.end) ns) ∙ last_end-outward given-next ns
+      -- the walk of what follows the matches before begins with it, whatever follows
+      abbrev IsFinal : Type 0
+      IsFinal = (q : Search) (y : List ℕ) → IsSearchFor patterns q → text q ≡ since ++ y → Follows y
+          → walk kind q ≡ outward q.low (outward since-is.0 m) ∷ walk kind (from q (q.low + (since-is.0 + m.end)))
 
-      rest-is : drop (given-next.end + last_end ns) w ≡ drop (last_end ns) (drop m.end v)
-      rest-is =
-          sym (drop-drop (last_end ns) given-next.end w)
-          ∙ ap (drop (last_end ns)) (sym (drop-drop m.end (length w - length v) w) ∙ ap (drop m.end) node-is)
+      -- then it is given, and what the node's rest gives
+      module _ (final : IsFinal) (ns : List Occurrence) (u : List ℕ)
+          (rest : Commits kind patterns (drop m.end v) Anything ns u) where
+        abbrev pub given-on : List Occurrence
+        given-on = ms ++ given-next ∷ map (outward given-next.end) ns
 
-      module _ (q : Search) (y : List ℕ) (is : IsSearchFor patterns q) (reads : text q ≡ w ++ (b ∷ y)) where
-        -- the search after the matches before, and after the pick
-        abbrev second : Search
-        second = from q (q.low + last_end ms)
+        last-is : last_end given-on ≡ given-next.end + last_end ns
+        last-is = last_end-others ms given-next (map (outward given-next.end) ns) ∙ last_end-outward given-next ns
 
-        abbrev third : Search
-        third = from second (second.low + (since-is.0 + m.end))
+        rest-is : drop (given-next.end + last_end ns) w ≡ drop (last_end ns) (drop m.end v)
+        rest-is =
+            sym (drop-drop (last_end ns) given-next.end w)
+            ∙ ap (drop (last_end ns)) (sym (drop-drop m.end (length w - length v) w) ∙ ap (drop m.end) node-is)
 
-        long : length w + suc (length y) ≡ q.high - q.low
+        module _ (q : Search) (y : List ℕ) (is : IsSearchFor patterns q) (reads : text q ≡ w ++ y) (follows : Follows y) where
+          -- the search after the matches before, and after the pick
+          abbrev second : Search
+          second = from q (q.low + last_end ms)
+
+          abbrev third : Search
+          third = from second (second.low + (since-is.0 + m.end))
+
+          long : length w + length y ≡ q.high - q.low
+          long =
+              let all = text_length q is.ordered is.inside in
+              let parts = ap length reads ∙ length-append w y in omega arith
+
+          second-is : IsSearchFor patterns second
+          second-is =
+              search-from kind patterns some q (q.low + last_end ms) is (omega arith)
+              (let l = long in let i = c.within in let o = is.ordered in omega arith)
+
+          second-reads : text second ≡ since ++ y
+          second-reads =
+              text-from kind patterns some q (last_end ms) (let l = long in let i = c.within in let o = is.ordered in omega arith)
+              ∙ ap (drop (last_end ms)) reads ∙ drop-append-le (last_end ms) w y c.within
+
+          third-within : second.low + (since-is.0 + m.end) ≤ q.high
+          third-within =
+              let l = long in let p = pick-within in let s = place-is in let o = is.ordered in
+              let n = since-is.1.long in let d = length-drop (last_end ms) w in let i = c.within in omega arith
+
+          third-reads : text third ≡ drop m.end v ++ y
+          third-reads =
+              text-from kind patterns some second (since-is.0 + m.end) third-within
+              ∙ ap (drop (since-is.0 + m.end)) second-reads
+              ∙ drop-append-le (since-is.0 + m.end) since y
+              (let p = pick-within in let n = since-is.1.long in omega arith)
+              ∙ ap (λ (u : List ℕ). u ++ y) (sym (drop-drop m.end since-is.0 since) ∙ ap (drop m.end) since-is.1.is)
+
+          third-walks : walk kind third ≡ map (outward third.low) ns ++ walk kind (from third (third.low + last_end ns))
+          third-walks =
+              rest.gives third y
+              (search-from kind patterns some second third.low second-is (omega arith) third-within) third-reads tt
+
+          -- the matches given so far, the pick, and what follows it
+          gives-on : walk kind q ≡ map (outward q.low) given-on ++ walk kind (from q (q.low + last_end given-on))
+          gives-on =
+              c.gives q y is reads follows
+              ∙ ap (λ (os : List Occurrence). map (outward q.low) ms ++ os)
+              (final second y second-is second-reads follows
+              ∙ ap (λ (os : List Occurrence). outward second.low (outward since-is.0 m) ∷ os) third-walks)
+              ∙ sym (append_assoc (map (outward q.low) ms)
+              (outward second.low (outward since-is.0 m) ∷ map (outward third.low) ns)
+              (walk kind (from third (third.low + last_end ns))))
+              ∙ ap (λ (os : List Occurrence). os ++ walk kind (from third (third.low + last_end ns))) (sym all-of)
+              ∙ ap (λ (k : ℕ). map (outward q.low) given-on ++ walk kind (from q k)) ends
+            where
+              ends : third.low + last_end ns ≡ q.low + last_end given-on
+              ends = let l = last-is in let p = place-is in omega arith
+
+              pick-is : outward q.low given-next ≡ outward second.low (outward since-is.0 m)
+              pick-is =
+                  same_occurrence (outward q.low given-next) (outward second.low (outward since-is.0 m)) refl
+                  (let p = place-is in omega arith) (let p = place-is in omega arith)
+
+              follow-is : map (outward q.low) (map (outward given-next.end) ns) ≡ map (outward third.low) ns
+              follow-is =
+                  map-outward q.low given-next.end ns
+                  ∙ ap (λ (k : ℕ). map (outward k) ns) (let p = place-is in omega arith)
+
+              all-of : map (outward q.low) given-on
+                  ≡ map (outward q.low) ms ++ outward second.low (outward since-is.0 m) ∷ map (outward third.low) ns
+              all-of =
+                  map-append (outward q.low) ms (given-next ∷ map (outward given-next.end) ns)
+                  ∙ ap (λ (os : List Occurrence). map (outward q.low) ms ++ outward q.low given-next ∷ os) follow-is
+                  ∙ ap (λ (o : Occurrence). map (outward q.low) ms ++ o ∷ map (outward third.low) ns) pick-is
+
+        pub commits-pick : Commits kind patterns w Follows given-on u
+        commits-pick = record {
+          gives = λ q y is reads follows. gives-on q y is reads follows;
+          within =
+              (let l = last-is in let p = pick-within in let i = rest.within in let d = length-drop m.end v in
+              let n = since-is.1.long in let s = place-is in let e = length-drop (last_end ms) w in let j = c.within in omega arith);
+          stands = ap (λ (k : ℕ). reached kind patterns No (drop k w)) last-is ∙ ap (reached kind patterns No) rest-is ∙ rest.stands;
+        }
+
+    module _ (m : Occurrence) (picked : IsPickIn kind patterns No v (Some m)) where
+      -- the pick is final where a byte leads to the dead node
+      module _ (b : ℕ) (c : Commits kind patterns w (Next b) ms v) (dead : step kind patterns No (Some v) b ≡ None) where
+        gone : reached kind patterns No (since (Next b) c m picked ++ b ∷ []) ≡ None
+        gone =
+            sym (step-reached kind patterns No (since (Next b) c m picked) b)
+            ∙ ap (λ (n : Node). step kind patterns No n b) c.stands ∙ dead
+
+        -- b changes nothing about it
+        stays : IsPickIn kind patterns No (since (Next b) c m picked ++ b ∷ [])
+            (Some (outward (since-is (Next b) c m picked).0 m))
+        stays =
+            pick-stays kind patterns No (since (Next b) c m picked) b (Some (outward (since-is (Next b) c m picked).0 m))
+            (sym (matches-reached kind patterns No (since (Next b) c m picked ++ b ∷ [])) ∙ ap (matches kind patterns No) gone)
+            (since-picked (Next b) c m picked)
+
+        pub final-dead : IsFinal (Next b) c m picked
+        final-dead q y is reads follows =
+            walk-dead kind patterns some q (since (Next b) c m picked ++ b ∷ []) follows.0 is
+            (reads ∙ ap (λ (z : List ℕ). since (Next b) c m picked ++ z) follows.1
+            ∙ sym (append_assoc (since (Next b) c m picked) (b ∷ []) follows.0))
+            (outward (since-is (Next b) c m picked).0 m) gone stays
+
+      -- and where nothing follows
+      pub final-last : (c : Commits kind patterns w Nothing ms v) → IsFinal Nothing c m picked
+      final-last c q y is reads follows =
+          walk-whole kind patterns some q (since Nothing c m picked) is
+          (reads ∙ ap (λ (z : List ℕ). since Nothing c m picked ++ z) follows ∙ append-nil (since Nothing c m picked))
+          (outward (since-is Nothing c m picked).0 m) (since-picked Nothing c m picked)
+
+    -- where nothing follows and the node has no pick, these are all matches
+    pub commits-all : Commits kind patterns w Nothing ms v → IsPickIn kind patterns No v None
+        → (q : Search) → IsSearchFor patterns q → text q ≡ w → walk kind q ≡ map (outward q.low) ms
+    commits-all c none q is reads =
+        c.gives q [] is (reads ∙ sym (append-nil w)) refl
+        ∙ ap (λ (os : List Occurrence). map (outward q.low) ms ++ os)
+        (walk-none kind patterns some (from q (q.low + last_end ms)) (drop (last_end ms) w)
+        (search-from kind patterns some q (q.low + last_end ms) is (omega arith) (let l = long in omega arith))
+        (text-from kind patterns some q (last_end ms) (let l = long in omega arith) ∙ ap (drop (last_end ms)) reads)
+        (pick-in_node kind patterns leftmost (drop (last_end ms) w) v rest.0 rest.1 c.stands None none))
+        ∙ append-nil (map (outward q.low) ms)
+      where
+        rest : (place : ℕ) × IsRest (drop (last_end ms) w) v place
+        rest = reached-rest kind patterns (drop (last_end ms) w) v c.stands
+
+        long : q.low + last_end ms ≤ q.high
         long =
-            let all = text_length q is.ordered is.inside in
-            let parts = ap length reads ∙ length-append w (b ∷ y) in omega arith
-
-        second-is : IsSearchFor patterns second
-        second-is =
-            search-from kind patterns some q (q.low + last_end ms) is (omega arith)
-            (let l = long in let i = c.within in let o = is.ordered in omega arith)
-
-        second-reads : text second ≡ since ++ (b ∷ y)
-        second-reads =
-            text-from kind patterns some q (last_end ms) (let l = long in let i = c.within in let o = is.ordered in omega arith)
-            ∙ ap (drop (last_end ms)) reads ∙ drop-append-le (last_end ms) w (b ∷ y) c.within
-
-        third-within : second.low + (since-is.0 + m.end) ≤ q.high
-        third-within =
-            let l = long in let p = pick-within in let s = place-is in let o = is.ordered in
-            let n = since-is.1.long in let d = length-drop (last_end ms) w in let i = c.within in omega arith
-
-        third-reads : text third ≡ drop m.end v ++ (b ∷ y)
-        third-reads =
-            text-from kind patterns some second (since-is.0 + m.end) third-within
-            ∙ ap (drop (since-is.0 + m.end)) second-reads
-            ∙ drop-append-le (since-is.0 + m.end) since (b ∷ y)
-            (let p = pick-within in let n = since-is.1.long in omega arith)
-            ∙ ap (λ (u : List ℕ). u ++ (b ∷ y)) (sym (drop-drop m.end since-is.0 since) ∙ ap (drop m.end) since-is.1.is)
-
-        second-walks : walk kind second ≡ outward second.low (outward since-is.0 m) ∷ walk kind third
-        second-walks =
-            walk-dead kind patterns some second (since ++ b ∷ []) y second-is
-            (second-reads ∙ sym (append_assoc since (b ∷ []) y)) (outward since-is.0 m) since-dead since-stays
-
-        third-walks : walk kind third ≡ map (outward third.low) ns ++ walk kind (from third (third.low + last_end ns))
-        third-walks =
-            rest.gives third (b ∷ y)
-            (search-from kind patterns some second third.low second-is (omega arith) third-within) third-reads
-
-        -- the matches given so far, the pick, and what follows it
-        gives-on : walk kind q ≡ map (outward q.low) given-on ++ walk kind (from q (q.low + last_end given-on))
-        gives-on =
-            c.gives q y is reads
-            ∙ ap (λ (os : List Occurrence). map (outward q.low) ms ++ os)
-            (second-walks ∙ ap (λ (os : List Occurrence). outward second.low (outward since-is.0 m) ∷ os) third-walks)
-            ∙ sym (append_assoc (map (outward q.low) ms)
-            (outward second.low (outward since-is.0 m) ∷ map (outward third.low) ns) (walk kind (from third (third.low + last_end ns))))
-            ∙ ap (λ (os : List Occurrence). os ++ walk kind (from third (third.low + last_end ns))) (sym all-of)
-            ∙ ap (λ (k : ℕ). map (outward q.low) given-on ++ walk kind (from q k)) ends
-          where
-            ends : third.low + last_end ns ≡ q.low + last_end given-on
-            ends = let l = last-is in let p = place-is in omega arith
-
-            pick-is : outward q.low given-next ≡ outward second.low (outward since-is.0 m)
-            pick-is =
-                same_occurrence (outward q.low given-next) (outward second.low (outward since-is.0 m)) refl
-                (let p = place-is in omega arith) (let p = place-is in omega arith)
-
-            follow-is : map (outward q.low) (map (outward given-next.end) ns) ≡ map (outward third.low) ns
-            follow-is =
-                map-outward q.low given-next.end ns
-                ∙ ap (λ (k : ℕ). map (outward k) ns) (let p = place-is in omega arith)
-
-            all-of : map (outward q.low) given-on
-                ≡ map (outward q.low) ms ++ outward second.low (outward since-is.0 m) ∷ map (outward third.low) ns
-            all-of =
-                map-append (outward q.low) ms (given-next ∷ map (outward given-next.end) ns)
-                ∙ ap (λ (os : List Occurrence). map (outward q.low) ms ++ outward q.low given-next ∷ os) follow-is
-                ∙ ap (λ (o : Occurrence). map (outward q.low) ms ++ o ∷ map (outward third.low) ns) pick-is
-
-      -- so a walk that a byte leads to the dead node gives the pick, then what its rest gives, and tries the byte there
-      pub commits-dead : Commits kind patterns w (b ∷ []) given-on u
-      commits-dead = record {
-        gives = λ q y is reads. gives-on q y is reads;
-        within =
-            (let l = last-is in let p = pick-within in let i = rest.within in let d = length-drop m.end v in
-            let n = since-is.1.long in let s = place-is in let e = length-drop (last_end ms) w in let j = c.within in omega arith);
-        stands = ap (λ (k : ℕ). reached kind patterns No (drop k w)) last-is ∙ ap (reached kind patterns No) rest-is ∙ rest.stands;
-      }
+            let all = text_length q is.ordered is.inside in let parts = ap length reads in
+            let i = c.within in let o = is.ordered in omega arith

@@ -130,3 +130,22 @@ module _ (kind : MatchKind) (patterns : List (List ℕ))
     pub walk-dead : (m : Occurrence) → reached kind patterns No w ≡ None → IsPickIn kind patterns No w (Some m)
         → walk kind q ≡ outward q.low m ∷ walk kind (from q (q.low + m.end))
     walk-dead m dead picked = walk-picks q (outward q.low m) is (dead-pick m dead picked)
+
+  -- the search whose text is w
+  module _ (q : Search) (w : List ℕ) (is : IsSearchFor patterns q) (reads : text q ≡ w) where
+    picked-in : (r : Option Occurrence) → IsPickIn kind patterns No w r
+        → IsPickIn kind (plain_patterns q) q.anchored (text q) r
+    picked-in r picked =
+        subst (λ (ps : List (List ℕ)). IsPickIn kind ps q.anchored (text q) r) (sym is.same)
+        (subst (λ (a : Anchored). IsPickIn kind patterns a (text q) r) (sym is.free)
+        (subst (λ (u : List ℕ). IsPickIn kind patterns No u r) (sym reads) picked))
+
+    -- its walk begins with the pick of w
+    pub walk-whole : (m : Occurrence) → IsPickIn kind patterns No w (Some m)
+        → walk kind q ≡ outward q.low m ∷ walk kind (from q (q.low + m.end))
+    walk-whole m picked =
+        walk-picks q (outward q.low m) is (sym (pick-from_text q is.ordered is.inside kind (Some m) (picked-in (Some m) picked)))
+
+    -- or is empty where w has none
+    pub walk-none : IsPickIn kind patterns No w None → walk kind q ≡ []
+    walk-none none = walk-ends q is (sym (pick-from_text q is.ordered is.inside kind None (picked-in None none)))
