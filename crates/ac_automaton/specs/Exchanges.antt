@@ -91,7 +91,7 @@ CallsBy closures m slice closure old r left new =
 
 module _ {E D : Type 0} (passing : Passing E D)
     (calls : Occurrence → List ℕ → Replacing E D → Result (Unit {0}) StreamError → Replacing E D → Type 0) where
-  -- the steps that exchange these matches of a haystack, from a place on
+  -- the steps that exchange these matches of a haystack, from an offset on
   abbrev pub Steps : List ℕ → ℕ → List Occurrence → Replacing E D → Option StreamError → Replacing E D → Type 0
   Steps haystack place ms s end t = ReplacementSteps (PassesPiece passing) calls answer_of_exchange haystack place ms s end t
 

@@ -64,7 +64,7 @@ pub record HasSearched (picking : Picking) (q : Search) (found : Option Occurren
   pub decided : new_work.counts.calls ≡ work.counts.calls
       → IsDecided picking.kind picking.order q found new_work.place
 
--- where a pattern stands that ends at a place
+-- where a pattern stands that ends at an offset
 abbrev pub place_of : Built → ℕ → ℕ → Occurrence
 place_of built end number = occurrence number (end - length (pattern_of built.patterns number)) end
 
@@ -182,7 +182,7 @@ pub record FindsOn (v : ScannerView) (stops : Bool) (cursor : Cursor) (tape : Ta
       → HasSearched (picking_by v.scan stops) (search_through v.scan (in_memory tape.bytes v.span)) found begun
       (work_of new_tape new_counts)
 
--- the span from one place to another
+-- the span from one offset to another
 abbrev pub between : ℕ → ℕ → Span
 between start end = record { start = start; end = end }
 

@@ -50,21 +50,21 @@ IsNotPushed queue e =
     ((e ≡ Memory) × (FIRST_INNER + length queue ≤ GREATEST))
     ⊎ ((e ≡ StateIdOverflow GREATEST (GREATEST + 1)) × (FIRST_INNER + length queue ≡ GREATEST + 1))
 
--- the transitions from a place on have been put in ascending order of their bytes
+-- the transitions from an index on have been put in ascending order of their bytes
 pub record HasSorted (first : ℕ) (old new : List Transition) : Type 0 where
   pub sorted : List Transition
   pub split : new ≡ take first old ++ sorted
   pub permutation : IsPermutation (drop first old) sorted
   pub order : IsSortedByKey (λ t. t.byte) nat_cmp sorted
 
--- the patterns that equal the string of a queued state end at the place: the next one has a further byte
+-- the patterns that equal the string of a queued state end at the index: the next one has a further byte
 pub record EndsPatterns (sorted : List Keyed) (p : QueuedState) (place : ℕ) : Type 0 where
   pub later : p.from ≤ place
   pub within : place ≤ p.to
   pub whole : (k : ℕ) → p.from ≤ k → k < place → byte_at sorted p.depth k ≡ None
   pub other : place < p.to → byte_at sorted p.depth place ≢ None
 
--- the patterns from one place up to another are those that begin with the string
+-- the patterns from one index up to another are those that begin with the string
 pub record IsRangeOf (sorted : List Keyed) (u : List ℕ) (from to : ℕ) : Type 0 where
   pub ordered : from ≤ to
   pub within : to ≤ length sorted
@@ -106,7 +106,7 @@ module _ (kind : MatchKind) (patterns : List (List ℕ)) (sorted : List Keyed) w
     pub empty : queue ≡ []
     pub depth : p.depth ≡ 0
 
-  -- the next state is the one at a place in the queue
+  -- the next state is the one at an index of the queue
   pub record IsQueued (queue : List QueuedState) (s : ℕ) (p : QueuedState) : Type 0 where
     pub place : ℕ
     pub number : s ≡ FIRST_INNER + place
@@ -138,7 +138,7 @@ module _ (kind : MatchKind) (ignores_case : Bool) (patterns : List (List ℕ)) (
     pub waits : Waits kind patterns sorted queue (length states) p
     pub next : IsNext kind patterns sorted queue (length states) p
 
-  -- a queued state has a child by the byte, whose patterns begin at the place
+  -- a queued state has a child by the byte, whose patterns begin at the index
   pub record HasChild (states : List State) (transitions : List Transition) (queue : List QueuedState)
       (p : QueuedState)
       (place byte : ℕ) : Type 0 where

@@ -60,7 +60,7 @@ HasFound walking q found work new_work =
     HasSearched walking.picking q found (record work { place = kept_place walking.picking.order work.place }) new_work
 
 -- a walk takes one find for a match; or two, where the first finds an empty match again where the one before it
--- ended: then the second is made one place further on
+-- ended: then the second is made one byte further on
 abbrev pub Finds : Walking → Work → Type 0
 Finds walking new_work =
     MatchBool (repeats (pick walking.picking.order walking.left) walking.last)

@@ -1,4 +1,4 @@
--- The places of an overlapping search: where its automaton stands, and how many items of the listing were given.
+-- Where an overlapping search stands: where its automaton stands, and how many items of the listing were given.
 use Rattle.std.specs.Prelude.{◌≡◌, ◌≢◌, ◌⊎◌, ℕ, ◌-◌, ◌<◌, ◌≤◌, ◌==◌, Bool, true, List, ◌∷◌, ◌++◌, [], length, map, drop, All, Option, None, Some, IfSome, MatchOption, MatchResult, max, Result}
 use Rattle.std.specs.Iterator.{YieldsFirst}
 use Rattle.std.specs.List.{take_while}
@@ -36,7 +36,7 @@ abbrev pub given_in : (ℕ → List ℕ) → Search → Reached → ℕ
 given_in listed q reached =
     length (all (record q { high = reached.at })) - length (due_in listed q reached)
 
--- a listing has come to a place of the span: its automaton stands there at the node reached, and what is still to
+-- a listing has come to an offset of the span: its automaton stands there at the node reached, and what is still to
 -- be given there are the last of the items that end up to there
 pub record HasListed (stands : ℕ → Node → Type 0) (listed : ℕ → List ℕ) (kind : MatchKind) (q : Search)
     (reached : Reached) : Type 0 where
@@ -48,7 +48,7 @@ pub record HasListed (stands : ℕ → Node → Type 0) (listed : ℕ → List �
   pub listing : all (record q { high = reached.at })
       ≡ given ++ map (ending (record q { high = reached.at })) (due_in listed q reached)
 
--- a listing of a text by a scan has come to a place
+-- a listing of a text by a scan has come to an offset
 abbrev pub IsListed : Scan → ScanText → Reached → Type 0
 IsListed s t reached = HasListed s.stands s.listed s.built.kind (search_through s t) reached
 
@@ -108,7 +108,7 @@ abbrev pub given_by : (ℕ → List ℕ) → Search → Option Reached → ℕ
 given_by listed q None = 0
 given_by listed q (Some reached) = given_in listed q reached
 
--- the place of the listing for which a state stands: how many of its items were given
+-- the rank in the listing for which a state stands: how many of its items were given
 abbrev pub place_by : (ℕ → List ℕ) → Search → OverlappingState → ℕ
 place_by listed q state = given_by listed q state.reached
 
@@ -116,7 +116,7 @@ place_by listed q state = given_by listed q state.reached
 abbrev pub IsPlaced : (ℕ → Node → Type 0) → (ℕ → List ℕ) → MatchKind → Search → OverlappingState → Type 0
 IsPlaced stands listed kind q state = IfSome state.reached (HasListed stands listed kind q)
 
--- a call has given the next item of the listing, or none past its end, and has left the state at the place after
+-- a call has given the next item of the listing, or none past its end, and has left the state at the rank after
 -- it
 pub record GivesNext (stands : ℕ → Node → Type 0) (listed : ℕ → List ℕ) (kind : MatchKind) (q : Search)
     (state new_state : OverlappingState) : Type 0 where
@@ -125,7 +125,7 @@ pub record GivesNext (stands : ℕ → Node → Type 0) (listed : ℕ → List �
   pub placed : IsPlaced stands listed kind q new_state
 
 -- what is seen of an iterator over the listing: the items still to come; the search, and how many of its items
--- were given; up to which place the tape was read; what was counted; and how many looks are allowed for each
+-- were given; up to which offset the tape was read; what was counted; and how many looks are allowed for each
 -- byte, and whether the automaton was built to have a prefilter
 pub record Overlapping : Type 0 where
   pub rest : List Occurrence

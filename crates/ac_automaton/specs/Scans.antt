@@ -25,7 +25,7 @@ search_of built anchored bytes start end = record {
   high = end;
 }
 
--- the node that an automaton of this kind has reached once it has read the span as far as a place
+-- the node that an automaton of this kind has reached once it has read the span as far as an offset
 abbrev pub node_at : MatchKind → Search → ℕ → Node
 node_at kind q at = reached kind (plain_patterns q) q.anchored (text (record q { high = at }))
 
@@ -33,7 +33,7 @@ node_at kind q at = reached kind (plain_patterns q) q.anchored (text (record q {
 abbrev pub StopsAtDead : MatchKind → Search → ℕ → Type 0
 StopsAtDead kind q place = (at : ℕ) → q.low ≤ at → at < place → node_at kind q at ≢ None
 
--- an automaton of this kind stands at the node reached at a place of a span, and was dead at none before it
+-- an automaton of this kind stands at the node reached at an offset of a span, and was dead at none before it
 pub record Reaches (stands : ℕ → Node → Type 0) (kind : MatchKind) (q : Search) (state at : ℕ) : Type 0 where
   pub there : stands state (node_at kind q at)
   pub onward : q.low ≤ at
@@ -46,7 +46,7 @@ pub record Grows (counts new_counts : Counts) : Type 0 where
   pub looks : counts.looks + (new_counts.reads - counts.reads) ≤ new_counts.looks
   pub calls : counts.calls ≤ new_counts.calls
 
--- what a search has done so far: the place up to which its tape was read, and what was counted
+-- what a search has done so far: the offset up to which its tape was read, and what was counted
 pub record Work : Type 0 where
   pub place : ℕ
   pub counts : Counts
@@ -117,7 +117,7 @@ pub record ScanText : Type 0 where
   pub start : ℕ
   pub end : ℕ
 
--- a place of the tape among all bytes that were read, where these were read before
+-- an offset of the tape among all bytes that were read, where these were read before
 abbrev pub past : List ℕ → ℕ → ℕ
 past [] at = at
 past (b ∷ before) at = past before at + 1
@@ -131,11 +131,11 @@ module _ (s : Scan) (t : ScanText) where
   abbrev pub search_through : Search
   search_through = search_of s.built s.anchored (t.before ++ t.bytes) t.start t.end
 
-  -- the node reached at a place of the tape
+  -- the node reached at an offset of the tape
   abbrev pub node : ℕ → Node
   node at = node_at s.built.kind search_through (past t.before at)
 
-  -- the automaton stands at a place of the tape in a state for the node reached, and was dead at no place before
+  -- the automaton stands at an offset of the tape in a state for the node reached, and was dead at no offset before
   abbrev pub IsAt : ℕ → ℕ → Type 0
   IsAt state at = Reaches s.stands s.built.kind search_through state (past t.before at)
 
@@ -144,11 +144,11 @@ module _ (s : Scan) (t : ScanText) where
     pub is_at : IsAt cursor.state cursor.at
     pub living : node cursor.at ≢ None
 
-  -- at no place between these has the node reached a match
+  -- at no offset between these has the node reached a match
   abbrev pub NoMatchBetween : ℕ → ℕ → Type 0
   NoMatchBetween from to = (k : ℕ) → from < k → k < to → matches_of s.built s.anchored (node k) ≡ []
 
-  -- a scan has come from one place of its tape to another: by bytes each of which it has read once, or passed over by
+  -- a scan has come from one offset of its tape to another: by bytes each of which it has read once, or passed over by
   -- the prefilter, which it called at most once for each, and not at all where it may not skip; and each look is paid
   -- for, by the bytes read and by what the nodes' lengths are worth
   pub record ScansTo (from : ℕ) (work : Work) (to : ℕ) (new_work : Work) : Type 0 where
@@ -173,7 +173,7 @@ module _ (s : Scan) (t : ScanText) where
     pub scans : ScansTo from work cursor.at new_work
     pub none : NoMatchBetween from cursor.at
 
-  -- the automaton is at its start at each place from one to another
+  -- the automaton is at its start at each offset from one to another
   abbrev pub StaysAtStart : ℕ → ℕ → Type 0
   StaysAtStart from to = (k : ℕ) → from ≤ k → k ≤ to → node k ≡ Some []
 

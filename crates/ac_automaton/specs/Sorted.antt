@@ -31,11 +31,11 @@ keyed_one ignores_case m = record { key = plain ignores_case m.bytes.now; number
 abbrev pub keyed : Bool → List SortedPattern → List Keyed
 keyed ignores_case sorted = map (keyed_one ignores_case) sorted
 
--- the plain bytes of the pattern at a place
+-- the plain bytes of the pattern at an index
 abbrev pub key_at : List Keyed → ℕ → List ℕ
 key_at sorted place = (slice_index_or sorted place (record { key = []; number = 0 })).key
 
--- the plain byte at a depth of the pattern at a place
+-- the plain byte at a depth of the pattern at an index
 abbrev pub byte_at : List Keyed → ℕ → ℕ → Option ℕ
 byte_at sorted depth place = slice_get (key_at sorted place) depth
 
@@ -103,12 +103,12 @@ ListsParticipants ignores_case old new =
     (patterns : List (List ℕ)) → IsOrder Standard patterns (keyed ignores_case old)
     → IsOrder LeftmostFirst patterns (keyed ignores_case new)
 
--- from one place up to another the patterns have the same byte at a depth, or none
+-- from one index up to another the patterns have the same byte at a depth, or none
 abbrev pub ShareByte : List Keyed → ℕ → ℕ → ℕ → Type 0
 ShareByte sorted depth from to =
     (k : ℕ) → from ≤ k → k < to → byte_at sorted depth k ≡ byte_at sorted depth from
 
--- those at two places have not
+-- those at two indices have not
 abbrev pub DifferAt : List Keyed → ℕ → ℕ → ℕ → Type 0
 DifferAt sorted depth j k = byte_at sorted depth j ≢ byte_at sorted depth k
 

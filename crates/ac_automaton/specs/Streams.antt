@@ -33,14 +33,14 @@ matches_so_far v = stream_result v.built v.bytes
 abbrev pub kept_len : Streaming → ℕ
 kept_len v = length v.bytes - v.kept
 
--- a stream of which these bytes came is settled as far as a place by so many of their matches: by all of them once its end
+-- a stream of which these bytes came is settled as far as an offset by so many of their matches: by all of them once its end
 -- was met
 abbrev pub IsSettledIn : Phase → Built → List ℕ → ℕ → ℕ → Type 0
 IsSettledIn Ended built bytes given place = (given ≡ length (stream_result built bytes)) × (place ≡ length bytes)
 IsSettledIn Open built bytes given place = IsSettledBy built.kind built bytes given place
 IsSettledIn Failed built bytes given place = IsSettledBy built.kind built bytes given place
 
--- so many of the matches settle the stream as far as a place: one of them was to be given, and ends by there
+-- so many of the matches settle the stream as far as an offset: one of them was to be given, and ends by there
 pub record IsSettling (v : Streaming) (m : Occurrence) : Type 0 where
   pub given : ℕ
   pub place : ℕ
@@ -177,7 +177,7 @@ abbrev pub GivesLast : Streaming → Option (Result Occurrence StreamError) → 
 GivesLast old result new =
     MatchOption result (HasGivenSettled old new) (λ item. MatchResult item (λ m. GivesMatch old m new) (λ e. ⊥))
 
--- as far as which place nothing is kept, all where the end was met
+-- as far as which offset nothing is kept, all where the end was met
 abbrev pub kept_from : Phase → ℕ → ℕ → ℕ
 kept_from Open place all = place
 kept_from Ended place all = all
@@ -202,11 +202,11 @@ pub record Inside : Type 0 where
 abbrev pub most_kept : Built → ℕ
 most_kept built = if is_leftmost built.kind then longest_len built.patterns else reserve built
 
--- the search over bytes of a stream from a place on
+-- the search over bytes of a stream from an offset on
 abbrev pub stream_from : Built → List ℕ → ℕ → Search
 stream_from built bytes begun = search_of built No bytes begun (length bytes)
 
--- so many matches were given, the last of which ended at a place: whichever bytes follow, or none once the end was met, the
+-- so many matches were given, the last of which ended at an offset: whichever bytes follow, or none once the end was met, the
 -- walk over all of them is these matches, and then what the walk gives from there on
 pub record HasGiven (phase : Phase) (built : Built) (bytes : List ℕ) (given begun : ℕ) : Type 0 where
   pub matches : List Occurrence
@@ -220,7 +220,7 @@ pub record HasGiven (phase : Phase) (built : Built) (bytes : List ℕ) (given be
 abbrev pub GivesEarly : Streaming → Type 0
 GivesEarly v = v.built.kind ≡ Standard → v.given ≡ length (matches_so_far v)
 
--- a search that picks has read on in the buffer to a place: its state there, and what it picks so far, which starts after what
+-- a search that picks has read on in the buffer to an offset: its state there, and what it picks so far, which starts after what
 -- isn't kept any more
 pub record HasReadOn (stands : ℕ → Node → Type 0) (i : Inside) (v : Streaming) (state at : ℕ) (picked : Option Occurrence)
     : Type 0 where

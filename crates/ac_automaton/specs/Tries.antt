@@ -282,7 +282,7 @@ pub record AreNodes (trie : Trie) (nodes : List Node) : Type 0 where
   pub anchored_start : slice_get nodes ANCHORED_START ≡ Some (Some [])
   pub stands : (s : ℕ) (u : Node) → slice_get nodes s ≡ Some u → IsTrieState trie s u
 
--- the node of a state number has an own transition at the place
+-- the node of a state number has an own transition at the index
 pub record HasOwn (trie : Trie) (s index : ℕ) : Type 0 where
   pub nodes : List Node
   pub are_nodes : AreNodes trie nodes
@@ -290,7 +290,7 @@ pub record HasOwn (trie : Trie) (s index : ℕ) : Type 0 where
   pub named : slice_get nodes s ≡ Some node
   pub within : index < length (transition_bytes_of trie.built node)
 
--- the byte stands at the place among those that lead on from the string, and leads to the state number
+-- the byte stands at the index among those that lead on from the string, and leads to the state number
 pub record IsOwn (trie : Trie) (nodes : List Node) (w : List ℕ) (index byte target : ℕ) : Type 0 where
   pub place : slice_get (transition_bytes_of trie.built (Some w)) index ≡ Some byte
   pub leads : slice_get nodes target ≡ Some (Some (w ++ plain_byte trie.built.ignores_case byte ∷ []))
@@ -313,7 +313,7 @@ IsFailureOf trie s target =
 abbrev pub own_len_of : Built → Node → ℕ
 own_len_of built u = length (transition_bytes_of built u)
 
--- the byte stands at the place among those that lead on from the string of a state, and leads to the target
+-- the byte stands at the index among those that lead on from the string of a state, and leads to the target
 abbrev pub IsOwnOf : Trie → ℕ → ℕ → ℕ → ℕ → Type 0
 IsOwnOf trie s index byte target =
     (nodes : List Node) (w : List ℕ) → AreNodes trie nodes → IsNumbered nodes s w → IsOwn trie nodes w index byte target

@@ -20,7 +20,7 @@ last_of cursor = if cursor.given == 0 then None else Some cursor.at
 abbrev pub walk_from : MatchKind → Search → Cursor → List Occurrence
 walk_from order q cursor = walk_after order (from q cursor.at) (last_of cursor)
 
--- an occurrence ends at this place or later
+-- an occurrence ends at this offset or later
 abbrev pub ends_from : ℕ → Occurrence → Bool
 ends_from place m = nat_le place m.end
 

@@ -62,7 +62,7 @@ past haystack = record { at = length haystack + 1; given = 0 }
 abbrev pub AnswersIf : {X Y : Type 0} → Bool → (X → Y) → Y → Option X → Type 0
 AnswersIf test seen value result = MatchOption result (test ≡ false) (λ x. (test ≡ true) × (seen x ≡ value))
 
--- the cursor once one more occurrence was given, which ends at this place
+-- the cursor once one more occurrence was given, which ends at this offset
 abbrev pub stepped : Cursor → ℕ → Cursor
 stepped cursor end =
     if cursor.at == end then record { at = cursor.at; given = cursor.given + 1 }

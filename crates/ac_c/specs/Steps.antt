@@ -27,7 +27,7 @@ pub record WalkStandsAt (walking : Walking) (cursor : Cursor) : Type 0 where
 abbrev pub left_at : Walking → Cursor → List Occurrence
 left_at walking cursor = walk_from walking.picking.order walking.left cursor
 
--- another place of the same walk
+-- another offset of the same walk
 pub record IsOfWalk (walking new_walking : Walking) : Type 0 where
   pub order : new_walking.picking.order ≡ walking.picking.order
   pub left : from new_walking.left 0 ≡ from walking.left 0

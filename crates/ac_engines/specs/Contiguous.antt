@@ -41,7 +41,7 @@ pub record Places : Type 0 where
   pub place : List ℕ → ℕ
   pub anchored_start : ℕ
 
--- the number of a node's state: the place of its first word. The dead node's is 0
+-- the number of a node's state: the address of its first word. The dead node's is 0
 abbrev pub number_at : Places → Anchored → Node → ℕ
 number_at at anchored None = 0
 number_at at Yes (Some []) = at.anchored_start
@@ -57,7 +57,7 @@ matches_in (first ∷ words) = if nat_lt first one_match then take first words e
 abbrev pub words_before_matches : ℕ → ℕ → ℕ
 words_before_matches form classes = if form == dense_form then 2 + classes else 2 + (form + 3) / 4 + form
 
--- what the state at a place lists
+-- what the state at an address lists
 abbrev pub match_list_at : ContiguousView → ℕ → List ℕ
 match_list_at p s =
     if nat_lt 0 s && nat_lt s p.match_end

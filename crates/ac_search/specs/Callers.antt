@@ -31,7 +31,7 @@ pub record Piece : Type 0 where
   pub start : ℕ
   pub text : List ℕ
 
--- the tokens are a text from one place to another: each starts where the one before it ends, has the bytes that stand there, and
+-- the tokens are a text from one offset to another: each starts where the one before it ends, has the bytes that stand there, and
 -- isn't empty
 abbrev pub Covers : List ℕ → ℕ → ℕ → List Piece → Type 0
 Covers text from to [] = from ≡ to
@@ -47,7 +47,7 @@ word_at t = option_map (λ w. occurrence w t.start (t.start + length t.text)) t.
 abbrev pub words_in : List Piece → List Occurrence
 words_in tokens = filter_map word_at tokens
 
--- what stands from one place of a text to another was added to its tokens, unless that is empty
+-- what stands from one offset of a text to another was added to its tokens, unless that is empty
 pub record Adds (text : List ℕ) (word : Option ℕ) (from to : ℕ) (old new : List Piece) : Type 0 where
   pub covers : (begin : ℕ) → Covers text begin from old → Covers text begin to new
   pub gap : word ≡ None → words_in new ≡ words_in old

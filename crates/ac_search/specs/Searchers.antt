@@ -170,7 +170,7 @@ HasBegunOver built reader matches =
     (start : StartKind)
     × (matches ≡ record { stream = initial_stream (starting_by built start); reader = reader })
 
--- a state stands for a place of the listing of an input by a searcher: it is fresh, or a call over these has left it
+-- a state stands for a rank in the listing of an input by a searcher: it is fresh, or a call over these has left it
 abbrev pub HasPlace : Searcher → InputView → OverlappingState → Type 0
 HasPlace searcher input state =
     IsPlaced (stands_in searcher.states input.anchored) (listed_in searcher.states) searcher.built.kind
@@ -180,7 +180,7 @@ HasPlace searcher input state =
 abbrev pub rank_in : Searcher → InputView → OverlappingState → ℕ
 rank_in searcher input state = place_by (listed_in searcher.states) (search_in searcher.built input) state
 
--- a call has given the next item of the listing, or none past its end, and the state stands for the place after it
+-- a call has given the next item of the listing, or none past its end, and the state stands for the rank after it
 abbrev pub GivesItem : Searcher → InputView → OverlappingState → OverlappingState → Type 0
 GivesItem searcher input state new_state =
     GivesNext (stands_in searcher.states input.anchored) (listed_in searcher.states) searcher.built.kind
@@ -197,7 +197,7 @@ FindsItem searcher input state result new_state =
 abbrev pub next_item : Searcher → InputView → OverlappingState → Option Occurrence
 next_item searcher input state = item_at (search_in searcher.built input) (rank_in searcher input state)
 
--- a state stands for the place after another's
+-- a state stands for the rank after another's
 abbrev pub IsNextPlace : Searcher → InputView → OverlappingState → OverlappingState → Type 0
 IsNextPlace searcher input state new_state =
     rank_in searcher input new_state ≡ place_after (search_in searcher.built input) (rank_in searcher input state)

@@ -80,7 +80,7 @@ one_more_call counts = record counts { calls = counts.calls + 1 }
 abbrev pub more_looks : ℕ → Counts → Counts
 more_looks n counts = record counts { looks = counts.looks + n }
 
--- the bytes of a tape, and the place after the last one that was read
+-- the bytes of a tape, and the offset after the last one that was read
 pub record Taped : Type 0 where
   pub bytes : List ℕ
   pub place : ℕ

@@ -122,7 +122,7 @@ module _ (built : Built) (bytes more : List ℕ) where
   abbrev pub MatchesStay : Type 0
   MatchesStay = take (length (stream_result built bytes)) (stream_result built (bytes ++ more)) ≡ stream_result built bytes
 
-  -- so many of the matches stay, and no other match starts before a place
+  -- so many of the matches stay, and no other match starts before an offset
   abbrev pub FirstMatchesStay : ℕ → ℕ → Type 0
   FirstMatchesStay given place =
       (take given (stream_result built (bytes ++ more)) ≡ take given (stream_result built bytes))
@@ -135,12 +135,12 @@ module _ (built : Built) (bytes more : List ℕ) where
       → FirstMatchesStay given place
 
 module _ (built : Built) (bytes : List ℕ) where
-  -- m is the first match of a stream from a place on, whatever follows these bytes
+  -- m is the first match of a stream from an offset on, whatever follows these bytes
   abbrev pub StaysFirst : ℕ → Occurrence → Type 0
   StaysFirst low m =
       (more : List ℕ) → pick built.kind (from (search_in built (whole_input (bytes ++ more))) low) ≡ Some m
 
-  -- where that is so of a match within the bytes under a leftmost kind, no place from there up to its start is open
+  -- where that is so of a match within the bytes under a leftmost kind, no offset from there up to its start is open
   abbrev pub StayingIsDecided : Type 0
   StayingIsDecided =
       (low : ℕ) (m : Occurrence) → is_leftmost built.kind ≡ true → m.end ≤ length bytes → StaysFirst low m

@@ -15,7 +15,7 @@ places_at q end start = map (λ number. occurrence number start end) (range_with
 abbrev pub places_ending_at : Search → ℕ → List Occurrence
 places_ending_at q end = flat_map (places_at q end) (up_to q.low end)
 
--- each pattern at each place that the span has room for: by end, then start, then pattern number
+-- each pattern at each offset that the span has room for: by end, then start, then pattern number
 abbrev pub places : Search → List Occurrence
 places q = flat_map (places_ending_at q) (up_to q.low q.high)
 
@@ -29,11 +29,11 @@ pub record IsBefore (a b : Occurrence) : Type 0 where
   pub starts : a.end ≡ b.end → a.start ≤ b.start
   pub patterns : a.end ≡ b.end → a.start ≡ b.start → a.pattern < b.pattern
 
--- an overlapping search has a place: how many items it has given. This is the item that it gives next, if there
+-- an overlapping search has a rank: how many items it has given. This is the item that it gives next, if there
 -- is one
 abbrev pub item_at : Search → ℕ → Option Occurrence
 item_at q place = slice_get (all q) place
 
--- the place after it: one further on, or the same past the end
+-- the rank after it: one further on, or the same past the end
 abbrev pub place_after : Search → ℕ → ℕ
 place_after q place = if nat_lt place (length (all q)) then place + 1 else place

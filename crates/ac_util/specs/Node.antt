@@ -54,18 +54,18 @@ abbrev pub suffixes : List ℕ → List (List ℕ)
 suffixes [] = [] ∷ []
 suffixes (b ∷ u) = (b ∷ u) ∷ suffixes u
 
--- the first place of the string at which a pattern begins that ends within it, if there is one
+-- the first offset of the string at which a pattern begins that ends within it, if there is one
 abbrev pub least_start : List (List ℕ) → List ℕ → Option ℕ
 least_start patterns [] = if begins_with_pattern patterns [] then Some 0 else None
 least_start patterns (b ∷ u) =
     if begins_with_pattern patterns (b ∷ u) then Some 0 else option_map suc (least_start patterns u)
 
--- the last place at which a match may start once u was read: under a leftmost kind where the first occurrence
+-- the last offset at which a match may start once u was read: under a leftmost kind where the first occurrence
 -- starts; None where a match may start anywhere
 abbrev pub last_start : MatchKind → List (List ℕ) → List ℕ → Option ℕ
 last_start kind patterns u = if is_leftmost kind then least_start patterns u else None
 
--- those of a string's suffixes, longest first, that start no later than a place, or all of them without one
+-- those of a string's suffixes, longest first, that start no later than an offset, or all of them without one
 abbrev pub starting_by : Option ℕ → List (List ℕ) → List (List ℕ)
 starting_by None ws = ws
 starting_by (Some c) ws = take (suc c) ws
@@ -108,7 +108,7 @@ matches kind patterns anchored None = []
 matches kind patterns No (Some u) = flat_map (equal_to kind patterns) (open_suffixes kind patterns u)
 matches kind patterns Yes (Some u) = equal_to kind patterns u
 
--- the patterns that take part, start at a place of the string and end with it
+-- the patterns that take part, start at an offset of the string and end with it
 abbrev pub matches_at : MatchKind → List (List ℕ) → List ℕ → Option ℕ → List ℕ
 matches_at kind patterns u None = []
 matches_at kind patterns u (Some place) = equal_to kind patterns (drop place u)
@@ -149,11 +149,11 @@ plain_patterns q = map (plain q.ignores_case) q.patterns
 abbrev pub text : Search → List ℕ
 text q = plain q.ignores_case (slice_range q.haystack q.low q.high)
 
--- the same search in a span that ends one place later
+-- the same search in a span that ends one byte later
 abbrev pub one_longer : Search → Search
 one_longer q = record q { high = q.high + 1 }
 
--- the same search in a span that ends n places later
+-- the same search in a span that ends n bytes later
 abbrev pub longer_by : Search → ℕ → Search
 longer_by q n = record q { high = q.high + n }
 
@@ -162,7 +162,7 @@ abbrev pub found_at_end : MatchKind → Search → List ℕ
 found_at_end kind q =
     matches kind (plain_patterns q) q.anchored (reached kind (plain_patterns q) q.anchored (text q))
 
--- the place of a pattern that ends where the span does
+-- where a pattern stands that ends where the span does
 abbrev pub ending : Search → ℕ → Occurrence
 ending q number = occurrence number (q.high - length (pattern_of q.patterns number)) q.high
 
@@ -170,6 +170,6 @@ ending q number = occurrence number (q.high - length (pattern_of q.patterns numb
 abbrev pub cut : Search → Search
 cut q = record q { haystack = slice_range q.haystack q.low q.high; low = 0; high = q.high - q.low }
 
--- an occurrence whose places are counted from `low` on, with places that are counted from the haystack's start
+-- an occurrence whose offsets are counted from `low` on, with offsets that are counted from the haystack's start
 abbrev pub outward : ℕ → Occurrence → Occurrence
 outward low m = occurrence m.pattern (low + m.start) (low + m.end)

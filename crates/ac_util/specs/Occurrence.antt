@@ -4,7 +4,7 @@ use Rattle.std.specs.Char.{to_ascii_lowercase}
 use Rattle.ac_util.specs.declared.search.Anchored.{Anchored}
 use Rattle.ac_util.specs.declared.search.Anchored.TheVariants.{No, Yes}
 
--- a pattern's number, the place of its first byte, and one past the place of its last
+-- a pattern's number, the offset of its first byte, and one past the offset of its last
 pub record Occurrence : Type 0 where
   pub pattern : ℕ
   pub start : ℕ
@@ -44,8 +44,8 @@ IsSame ignores_case s t = plain ignores_case s ≡ plain ignores_case t
 abbrev pub same_string : Bool → List ℕ → List ℕ → Bool
 same_string ignores_case s t = bytes_eq (plain ignores_case s) (plain ignores_case t)
 
--- these patterns, in the bytes of the haystack from low up to high, and if anchored only at low; with fold the
--- case of ASCII letters is ignored. Whoever asks for a search sees to it that high lies in the haystack
+-- these patterns, in the bytes of the haystack from low up to high, and if anchored only at low; where
+-- `ignores_case` is true the case of ASCII letters is ignored. Whoever asks for a search sees to it that high lies in the haystack
 pub record Search : Type 0 where
   pub patterns : List (List ℕ)
   pub ignores_case : Bool
@@ -54,7 +54,7 @@ pub record Search : Type 0 where
   pub low : ℕ
   pub high : ℕ
 
--- the same search in a span that begins at this place
+-- the same search in a span that begins at this offset
 abbrev pub from : Search → ℕ → Search
 from q place = record q { low = place }
 
@@ -72,7 +72,7 @@ pub record Occurs (q : Search) (m : Occurrence) : Type 0 where
   pub reads : IsSame q.ignores_case (pattern_of q.patterns m.pattern) (slice_range q.haystack m.start m.end)
   pub at_low : q.anchored ≡ Yes → m.start ≡ q.low
 
--- whether a match may start at this place of a span with this low end
+-- whether a match may start at this offset of a span with this low end
 abbrev pub may_start : Anchored → ℕ → ℕ → Bool
 may_start No low start = true
 may_start Yes low start = start == low

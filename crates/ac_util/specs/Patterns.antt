@@ -13,7 +13,7 @@ use Rattle.ac_util.specs.Node.{participants}
 abbrev pub bytes_of : List (Bor (List ℕ)) → List (List ℕ)
 bytes_of strings = map (λ s. s.now) strings
 
--- the bounds rise up to the last place, which is one of them
+-- the bounds rise up to the last offset, which is one of them
 abbrev pub AreBounds : List ℕ → ℕ → Type 0
 AreBounds [] last = ⊥
 AreBounds (b ∷ []) last = b ≡ last

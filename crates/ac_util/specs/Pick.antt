@@ -5,8 +5,8 @@ use Rattle.ac_util.specs.declared.search.MatchKind.TheVariants.{Standard, Leftmo
 use Rattle.ac_util.specs.Occurrence.{Occurrence, Search, Occurs}
 use Rattle.ac_util.specs.Listing.{all}
 
--- a ends no later than b; where both end together it starts no later; where they are one place its number is no
--- greater
+-- a ends no later than b; where both end together it starts no later; where both also start together its number
+-- is no greater
 pub record IsFirstByEnd (a b : Occurrence) : Type 0 where
   pub ends : a.end ≤ b.end
   pub starts : a.end ≡ b.end → a.start ≤ b.start
@@ -17,8 +17,8 @@ pub record IsFirstByStart (a b : Occurrence) : Type 0 where
   pub starts : a.start ≤ b.start
   pub patterns : a.start ≡ b.start → a.pattern ≤ b.pattern
 
--- a starts no later than b; where both start together it is no shorter; where they are one place its number is
--- no greater
+-- a starts no later than b; where both start together it is no shorter; where both also end together its number
+-- is no greater
 pub record IsFirstByLength (a b : Occurrence) : Type 0 where
   pub starts : a.start ≤ b.start
   pub ends : a.start ≡ b.start → b.end ≤ a.end

@@ -18,7 +18,7 @@ use Rattle.ac_util.specs.Node.{is_empty}
 use Rattle.ac_util.specs.Occurrence.{Occurrence, plain_byte, same_byte, Search, Occurs}
 use Rattle.ac_util.specs.Pick.{pick}
 
--- a search skips to the first of some bytes, or to the first place of a needle
+-- a search skips to the first of some bytes, or to the first offset of a needle
 pub data Skip : Type 0 where
   FirstOf : List ℕ → Skip
   Needle : List ℕ → Skip
@@ -140,7 +140,7 @@ abbrev pub match_candidate : Option Occurrence → Candidate
 match_candidate None = Nothing
 match_candidate (Some m) = Found m
 
--- the first place of a span that holds one of the bytes
+-- the first offset of a span that holds one of the bytes
 abbrev pub IsFirstAmong : List ℕ → List ℕ → ℕ → ℕ → Option ℕ → Type 0
 IsFirstAmong bytes haystack low high place = IsFirst (Passes (is_one_of bytes) haystack) low high place
 
@@ -149,7 +149,7 @@ abbrev pub IsNeedleMatch : List ℕ → List ℕ → ℕ → ℕ → Option Occu
 IsNeedleMatch needle haystack low high found =
     (kind : MatchKind) → pick kind (search_over false (needle ∷ []) haystack low high) ≡ found
 
--- what a skip says of a span: the first place of it that holds one of the bytes; or the match that a search for
+-- what a skip says of a span: the first offset of it that holds one of the bytes; or the match that a search for
 -- the needle alone picks
 abbrev pub IsCandidateFor : Skip → List ℕ → ℕ → ℕ → Candidate → Type 0
 IsCandidateFor (FirstOf bytes) haystack low high candidate =
@@ -158,7 +158,7 @@ IsCandidateFor (Needle needle) haystack low high candidate =
     candidate ≡ match_candidate (pick Standard (search_over false (needle ∷ []) haystack low high))
 
 -- what a candidate says of a span: nothing occurs in it; the match is what is picked, by any kind; or nothing
--- that occurs starts before the place
+-- that occurs starts before the offset
 abbrev pub Promises : Search → Candidate → Type 0
 Promises q Nothing = (m : Occurrence) → ¬ Occurs q m
 Promises q (Found m) = (kind : MatchKind) → pick kind q ≡ Some m

@@ -7,7 +7,7 @@ use Rattle.ac_util.specs.declared.error.MatchError.{MatchError}
 use Rattle.ac_util.specs.declared.error.ReplaceError.{ReplaceError}
 use Rattle.ac_util.specs.declared.error.ReplaceError.TheVariants.{Match, Memory}
 
--- what stands from a place on: each gap as it is, each match exchanged for what `write` gives for it and its bytes
+-- what stands from an offset on: each gap as it is, each match exchanged for what `write` gives for it and its bytes
 abbrev pub exchanged_from : List ℕ → (Occurrence → List ℕ → List ℕ) → ℕ → List Occurrence → List ℕ
 exchanged_from haystack write place [] = drop place haystack
 exchanged_from haystack write place (m ∷ ms) =
@@ -23,7 +23,7 @@ replaced_from haystack texts place ms =
 abbrev pub replaced : List ℕ → List (List ℕ) → List Occurrence → List ℕ
 replaced haystack texts ms = replaced_from haystack texts 0 ms
 
--- whether a character of the text begins at this place, or the text ends there: `IsCharBoundary` as a test
+-- whether a character of the text begins at this offset, or the text ends there: `IsCharBoundary` as a test
 abbrev pub is_char_boundary : List ℕ → ℕ → Bool
 is_char_boundary text i =
     nat_le i (length text) &&
@@ -37,7 +37,7 @@ is_whole text m = is_char_boundary text m.start && is_char_boundary text m.end
 abbrev pub whole_characters : List ℕ → List Occurrence → List Occurrence
 whole_characters text ms = filter (is_whole text) ms
 
--- the first of the matches starts at the place or later
+-- the first of the matches starts at the offset or later
 abbrev pub StartFrom : ℕ → List Occurrence → Type 0
 StartFrom place [] = ⊤
 StartFrom place (m ∷ ms) = place ≤ m.start
@@ -59,13 +59,13 @@ MatchAnswer (Fails failure) on last fails = fails failure
 -- match and its slice may answer r, and take s to t.
 module _ {S R E : Type 0} (appends : List ℕ → S → Option E → S → Type 0)
     (calls : Occurrence → List ℕ → S → R → S → Type 0) (asks : R → Answer E) (haystack : List ℕ) where
-  -- the gap from a place up to the match is appended, and one call is made with the match
+  -- the gap from an offset up to the match is appended, and one call is made with the match
   pub record Turn (place : ℕ) (m : Occurrence) (s : S) (r : R) (t : S) : Type 0 where
     pub at_match : S
     pub gap : appends (slice_range haystack place m.start) s None at_match
     pub call : calls m (slice_range haystack m.start m.end) at_match r t
 
-  -- from a place on, the matches that are left take s to t: a turn for each, up to the first whose answer doesn't
+  -- from an offset on, the matches that are left take s to t: a turn for each, up to the first whose answer doesn't
   -- go on; then what is left of the haystack is appended. The first failure ends the steps: nothing follows it
   abbrev pub ReplacementSteps : ℕ → List Occurrence → S → Option E → S → Type 0
   ReplacementSteps place [] s end t = appends (drop place haystack) s end t
@@ -159,7 +159,7 @@ abbrev pub MatchReplaceError : ReplaceError → (MatchError → Type 0) → Type
 MatchReplaceError (Match e) refused memory = refused e
 MatchReplaceError Memory refused memory = memory
 
--- a replacement by a list answers a whole text where nothing refuses it, and else fails by the refusal. Want of
+-- a replacement by a list answers a whole text where nothing refuses it, and else fails by the refusal. Lack of
 -- memory comes only where nothing refuses it
 abbrev pub AnswersWhole : {A : Type 0} → Option MatchError → (A → Type 0) → Result A ReplaceError → Type 0
 AnswersWhole refusal whole result =

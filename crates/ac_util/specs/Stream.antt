@@ -53,7 +53,7 @@ abbrev pub error_of : WriteError → StreamError
 error_of (WriteFailed e) = Io e
 error_of WroteNothing = WriteZero
 
--- a place is open where some bytes follow it, and a pattern that takes part begins with them and is longer: a match may
+-- an offset is open where some bytes follow it, and a pattern that takes part begins with them and is longer: a match may
 -- still come of it
 pub record IsOpen (built : Built) (bytes : List ℕ) (place : ℕ) : Type 0 where
   pub inside : place < length bytes
@@ -63,17 +63,17 @@ pub record IsOpen (built : Built) (bytes : List ℕ) (place : ℕ) : Type 0 wher
   pub longer : length bytes < place + length (pattern_of built.patterns number)
   pub begins : IsSame built.ignores_case (take (length bytes - place) (pattern_of built.patterns number)) (drop place bytes)
 
--- no place from one up to another is open
+-- no offset from one up to another is open
 abbrev pub NoneOpen : Built → List ℕ → ℕ → ℕ → Type 0
 NoneOpen built bytes from to = (place : ℕ) → from ≤ place → place < to → IsOpen built bytes place → ⊥
 
--- from a place on up to and with the start of the first of these matches none is open, and so on from its end; and none from
--- the last end up to another place
+-- from an offset on up to and with the start of the first of these matches none is open, and so on from its end; and none from
+-- the last end up to another offset
 abbrev pub AreDecided : Built → List ℕ → ℕ → List Occurrence → ℕ → Type 0
 AreDecided built bytes from [] to = NoneOpen built bytes from to
 AreDecided built bytes from (m ∷ ms) to = NoneOpen built bytes from (m.start + 1) × AreDecided built bytes m.end ms to
 
--- these bytes of a stream came, and so many of their matches were given: the stream is settled up to a place where these end
+-- these bytes of a stream came, and so many of their matches were given: the stream is settled up to an offset where these end
 -- by there and are decided, and no other match starts before it
 pub record IsSettledAt (built : Built) (bytes : List ℕ) (given place : ℕ) : Type 0 where
   pub few : given ≤ length (stream_result built bytes)
@@ -105,22 +105,22 @@ abbrev pub FailsToRead : ℕ → Reading → Reading → List ℕ → StreamErro
 FailsToRead seen old new bytes e =
     MatchStreamError e (λ _. ⊥) ⊥ (ReadsUntilFailure old new bytes) ⊥ (ReadsTooMany seen old new bytes)
 
--- as far as which place a stream is settled under Standard, of which these bytes came: all but the bytes held back
+-- as far as which offset a stream is settled under Standard, of which these bytes came: all but the bytes held back
 abbrev pub settled : Built → List ℕ → ℕ
 settled built bytes = length bytes - kept_back_len built bytes
 
--- these bytes of a stream came, and it is settled as far as a place by so many of their matches: under Standard by all of
+-- these bytes of a stream came, and it is settled as far as an offset by so many of their matches: under Standard by all of
 -- them, and under a leftmost kind by those that no longer stream changes
 abbrev pub IsSettledBy : MatchKind → Built → List ℕ → ℕ → ℕ → Type 0
 IsSettledBy Standard built bytes given place = (given ≡ length (stream_result built bytes)) × (place ≡ settled built bytes)
 IsSettledBy LeftmostFirst built bytes given place = IsSettledAt built bytes given place
 IsSettledBy LeftmostLongest built bytes given place = IsSettledAt built bytes given place
 
--- no more bytes follow the place than the longest pattern has
+-- no more bytes follow the offset than the longest pattern has
 abbrev pub IsNear : Built → List ℕ → ℕ → Type 0
 IsNear built bytes place = length bytes ≤ place + longest_len built.patterns
 
--- the bytes came, with the end or without it, and the stream is settled as far as a place by so many of their matches: by all
+-- the bytes came, with the end or without it, and the stream is settled as far as an offset by so many of their matches: by all
 -- of them once its end was met
 abbrev pub IsSettled : Bool → Built → Reading → Reading → List ℕ → ℕ → ℕ → Type 0
 IsSettled ends built old new bytes given place =
@@ -145,7 +145,7 @@ answer_of_result (Err e) = Fails (Io e)
 module _ {F D : Type 0} (told : D → Writing)
     (closures : Mut F (Bor Occurrence × (Bor (List ℕ) × (MutBor D × Unit {0})))
     (Result (Unit {0}) Error × (MutBor D × Unit {0}))) (built : Built) (closure : F) (old : D) where
-  -- the steps that exchange these matches of some bytes by a closure, as far as a place, lead a writer from `old` to `new`
+  -- the steps that exchange these matches of some bytes by a closure, as far as an offset, lead a writer from `old` to `new`
   abbrev pub StreamStepsLead : List ℕ → List Occurrence → ℕ → Option StreamError → D → Type 0
   StreamStepsLead bytes ms place end new =
       (left : F) × ReplacementSteps (WritesPiece told) (Calls closures) answer_of_result (take place bytes) 0
@@ -187,7 +187,7 @@ module _ (built : Built) (write : Occurrence → List ℕ → List ℕ) where
   abbrev pub stream_exchanged : List ℕ → List ℕ
   stream_exchanged bytes = exchanged_from bytes write 0 (stream_result built bytes)
 
-  -- the same as far as a place, by so many of the matches
+  -- the same as far as an offset, by so many of the matches
   abbrev pub exchanged_to : List ℕ → ℕ → ℕ → List ℕ
   exchanged_to bytes given place = exchanged_from (take place bytes) write 0 (take given (stream_result built bytes))
 

@@ -10,7 +10,7 @@ repeats None last = false
 repeats (Some m) None = false
 repeats (Some m) (Some last) = m.start == m.end && m.end == last
 
--- the pick of the span, or where that repeats the pick one place further on
+-- the pick of the span, or where that repeats the pick one byte further on
 abbrev pub unless_repeated : MatchKind → Search → Option Occurrence → Bool → Option Occurrence
 unless_repeated kind q m false = m
 unless_repeated kind q m true = pick kind (from q (q.low + 1))

@@ -67,7 +67,7 @@ FailsToWriteFor Replace old new bytes fault = FailsToWrite old new bytes fault �
 FailsToWriteFor StreamReplace old new bytes fault = FailsToWrite old new bytes fault
 FailsToWriteFor mode old new bytes fault = FailsToPrint old new bytes fault
 
--- what a mode writes for so many matches of a stream that has given these bytes, as far as a place
+-- what a mode writes for so many matches of a stream that has given these bytes, as far as an offset
 abbrev pub text_as_far : Mode → Built → List (List ℕ) → List ℕ → ℕ → ℕ → List ℕ
 text_as_far StreamReplace built texts bytes given place =
     replaced (take place bytes) texts (take given (stream_result built bytes))

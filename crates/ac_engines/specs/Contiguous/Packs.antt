@@ -11,7 +11,7 @@ use Rattle.ac_engines.specs.declared.nfa.contiguous.format.Format.TheVariants.{D
 use Rattle.ac_engines.specs.declared.nfa.contiguous.pack.Buffers.{Buffers}
 use Rattle.std.specs.declared.alloc.AllocError.{AllocError}
 
--- what states are packed by: a plan, and the place of each state of the trie
+-- what states are packed by: a plan, and the address of each state of the trie
 pub record Packer : Type 0 where
   pub plan : PackPlan
   pub numbers : List ℕ
@@ -21,7 +21,7 @@ abbrev pub anchored_of : ℕ → Anchored
 anchored_of s = if nat_eq s ANCHORED_START then Yes else No
 
 module _ (f : Packer) (nodes : List Node) where
-  -- the states have places
+  -- the states have addresses
   pub record AreReady : Type 0 where
     pub may : MayPack f.plan nodes
     pub places : HasPlaces f.plan nodes f.numbers
@@ -45,7 +45,7 @@ module _ (f : Packer) (nodes : List Node) where
         → BeginsWith (drop (length old + total (size_at f.plan nodes front) s) new)
         (node_format f.plan.trie.built f.plan.dense_depth u) (alphabet_len f.plan.classes) (packed_state s u)
 
--- the state has words, whose place is known
+-- the state has words, whose address is known
 pub record HasPlaceIn (f : Packer) (s : ℕ) : Type 0 where
   pub words : HasWords f.plan s
   pub ready : AreReady f words.nodes
@@ -69,7 +69,7 @@ abbrev pub IsPacked : Packer → List Node → List ℕ → Type 0
 IsPacked f nodes words =
     IsContiguous (packed_of f.plan nodes f.numbers words) (places_of f.plan nodes f.numbers)
 
--- this holds of what a state spells, where all states have places
+-- this holds of what a state spells, where all states have addresses
 abbrev pub ForPacked : Packer → ℕ → (PackedState → Type 0) → Type 0
 ForPacked f s P = ForNode (AreReady f) s (λ nodes u. P (packed_state f nodes s u))
 
