@@ -50,6 +50,7 @@ pub mod ReplacedCuts
 pub mod NodeRests
 pub mod PickedWalks
 pub mod Commits
+pub mod NodeCommits
 pub mod DeadSteps
 pub mod NodePicks
 pub mod StreamExchanges
