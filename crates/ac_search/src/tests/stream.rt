@@ -50,22 +50,31 @@ fn walked<'a>(
     Ok((walk, end, ended))
 }
 
-/// Compares two walks of one stream with what a row says: by the call that tests the searcher, and by the one that doesn't.
+/// Compares a walk of a stream with what a row says.
+fn compare_given<'a>(
+    rt: &impl Abort,
+    alloc: Global,
+    searcher: &AhoCorasick,
+    mut matches: StreamFindIter<'a, Pieces<'a>>,
+    (_, wanted, end, kept): Walk<'a>,
+) -> Result<(), Fail> {
+    let (walk, ended, stays) = walked(alloc, &mut matches)?;
+    same_by(rt, (walk.as_slice(), ended), (wanted, Some(end)), searcher);
+    same_by(rt, (stays, matches.kept_len()), (true, kept), searcher);
+    Ok(())
+}
+
+/// Compares two walks of one stream: by the call that tests the searcher, and by the one that doesn't.
 fn compare_walk<'a>(
     rt: &impl Abort,
     alloc: Global,
     searcher: &'a AhoCorasick,
     row: Walk<'a>,
 ) -> Result<(), Fail> {
-    let (given, wanted, end, kept) = row;
-    let tried = searcher.try_stream_find_iter(alloc, reader_of(given))?;
-    let begun = searcher.stream_find_iter(alloc, reader_of(given))?;
-    for mut matches in [tried, begun] {
-        let (walk, ended, stays) = walked(alloc, &mut matches)?;
-        same_by(rt, (walk.as_slice(), ended), (wanted, Some(end)), searcher);
-        same_by(rt, (stays, matches.kept_len()), (true, kept), searcher);
-    }
-    Ok(())
+    let tried = searcher.try_stream_find_iter(alloc, reader_of(row.0))?;
+    compare_given(rt, alloc, searcher, tried, row)?;
+    let begun = searcher.stream_find_iter(alloc, reader_of(row.0))?;
+    compare_given(rt, alloc, searcher, begun, row)
 }
 
 /// Patterns, match kinds, and streams.
