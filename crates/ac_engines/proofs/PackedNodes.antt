@@ -17,6 +17,7 @@ use Rattle.ac_engines.specs.Prelude.{anchored_of, AreReady, ContiguousView, Edge
 use Rattle.ac_engines.specs.Contiguous.Plans.{match_len_of}
 use Rattle.ac_engines.specs.Contiguous.Words.{Fits}
 use Rattle.ac_engines.proofs.Filled.{transition_bytes_of-only, transition_bytes_of-small}
+use Rattle.ac_engines.proofs.InnerStates.{start-empty}
 use Rattle.ac_engines.proofs.MatchCounts.{matches-few, matches-numbered}
 use Rattle.ac_engines.proofs.Numbered.{inner-string, place-inner, place-start}
 
@@ -57,7 +58,19 @@ module _ (p : ContiguousView) (at : Places) where
   matches-format_words Yes (Some []) = refl
   matches-format_words anchored (Some (x ∷ w)) = refl
 
+  -- a start has no failure target
+  start-failure : (anchored : Anchored) → 0 ≡ (packed_at p at anchored (Some [])).failure
+  start-failure No = refl
+  start-failure Yes = refl
+
 module _ (f : Packer) (nodes : List Node) (h : AreReady f nodes) where
+  -- nor does its state
+  pub failure-start : (s : ℕ) (u : Node) → 2 ≤ s → s < 4 → slice_get nodes s ≡ Some u
+      → 0 ≡ (packed_state f nodes s u).failure
+  failure-start s u reached below named =
+      rw (start-empty f.plan.trie nodes s u h.may.are_nodes reached below named)
+      (start-failure (packed_of f.plan nodes f.numbers []) (places_of f.plan nodes f.numbers) (anchored_of s))
+
   -- where a state stands that is none of the starts for anchored searches
   pub number-format_words : (t : ℕ) (v : Node) → slice_get nodes t ≡ Some v → t ≢ 3
       → slice_index_or f.numbers t 0 ≡ number_at (places_of f.plan nodes f.numbers) No v
