@@ -1,7 +1,7 @@
 -- The places of a plan's states, by the sums of their sizes.
-use Rattle.std.proofs.Common.{◌≡◌, ℕ, zero, suc, ◌+◌, ◌*◌, ◌<◌, ◌≤◌, Bool, true, false, cond, List, [], ◌∷◌, ◌++◌, length, None, Some, refl, sym, arith, slice_get, slice_index_or, rules}
+use Rattle.std.proofs.Common.{◌≡◌, ℕ, zero, suc, ◌+◌, ◌*◌, ◌<◌, ◌≤◌, Bool, true, false, cond, List, [], ◌∷◌, ◌++◌, length, None, Some, refl, arith, slice_get, slice_index_or, rules}
 use Rattle.std.proofs.lemmas.Bool.{cond-false, le-ltb}
-use Rattle.std.proofs.lemmas.Option.{slice_get-get_or, slice_get_within}
+use Rattle.std.proofs.lemmas.Option.{slice_get-get_or}
 use Rattle.std.proofs.lemmas.Grind.{common_steps}
 use Rattle.ac_automaton.specs.Util.{alphabet_len, Node, state_count}
 use Rattle.ac_automaton.specs.Prelude.{plain_of}
@@ -13,11 +13,6 @@ use Rattle.ac_engines.proofs.PackedSums.{total-both, total-grows, total-inner, t
 pub plan-states : (p q : PackPlan) (nodes : List Node) (n : ℕ) → MayPack q nodes → p ≡ q
     → n ≡ state_count p.trie.built.kind (plain_of p.trie.built) → n ≡ length nodes
 plan-states p q nodes n may same whole = cc
-
--- and one that has words is among them
-pub words-numbered : (p q : PackPlan) (s : ℕ) → p ≡ q → HasWords q s → s < state_count p.trie.built.kind (plain_of p.trie.built)
-words-numbered p q s same has =
-    rw (same, sym has.may.are_nodes.numbered.count) (slice_get_within has.nodes s has.node has.named)
 
 -- the sum of the sizes of the states before one, of those that have matches or of the others
 abbrev pub before : PackPlan → List Node → Bool → ℕ → ℕ

@@ -4,7 +4,7 @@ use Rattle.ac_util.specs.Node.{failure}
 use Rattle.ac_automaton.specs.Prelude.{AreNodes, plain_of, Trie}
 use Rattle.ac_engines.specs.Prelude.{Packer, PackPlan}
 use Rattle.ac_engines.proofs.PackedNodes.{failure-format_words, failure-start}
-use Rattle.ac_engines.proofs.PlanSums.{words-numbered}
+use Rattle.ac_engines.proofs.PlanStates.{words-numbered}
 use Rattle.ac_engines.proofs.nfa.contiguous.pack.Packer.failure.Goals as goal
 
 -- the starts have none
