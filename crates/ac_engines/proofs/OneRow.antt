@@ -58,7 +58,8 @@ module _ (f : Filling) (nodes : List Node) (size s : ℕ) (w : List ℕ) (h : Ha
 
       go : (b : ℕ) → b < 256 → (t : Bool) → leads_on p.built (Some []) b ≡ t
           → entry p.classes new (row_at p No (Some [])) b ≡ row_at p No (step_of p.built No (Some []) b)
-      go b byte true own = search (rules, start-own, transition_bytes_of-has)
+      go b byte true own =
+          set.own b byte (transition_bytes_of-has p.built (Some []) b byte own) ∙ ap (row_at p No) (sym (start-own b own))
       go b byte false none =
           set.others b byte (λ has. false≢true (sym none ∙ transition_bytes_of-only p.built (Some []) b has))
           ∙ leads b byte ∙ ap (row_at p No) (sym (misses b none))
@@ -112,4 +113,7 @@ module _ (f : Filling) (nodes : List Node) (size s : ℕ) (w : List ℕ) (h : Ha
 
       copied-entry : (b : ℕ) → b < 256 → entry p.classes copied (row_at p No (Some w)) b
           ≡ entry p.classes old (row_at p No (failure p.built.kind (plain_of p.built) w)) b
-      copied-entry b byte = search rules
+      copied-entry b byte =
+          let below = h.may.below b byte in
+          copies (row_at p No (Some w) + class_at p.classes b) 0 (omega arith) (omega arith)
+          ∙ ap (λ (k : ℕ). slice_index_or old k 0) (omega arith)

@@ -1,5 +1,5 @@
 -- Where a state of a contiguous NFA leads, by the node that it stands for.
-use Rattle.std.proofs.Common.{◌≡◌, ◌≢◌, ℕ, ◌+◌, ◌<◌, Bool, true, false, List, [], ◌∷◌, ◌++◌, ◌⊎◌, inl, inr, refl, arith, Some, None, if◌then◌else◌, slice_index_or, rules}
+use Rattle.std.proofs.Common.{◌≡◌, ◌≢◌, ℕ, ◌+◌, ◌<◌, Bool, true, false, List, [], ◌∷◌, ◌++◌, ◌⊎◌, inl, inr, refl, ap, sym, ◌∙◌, arith, Some, None, if◌then◌else◌, slice_index_or, rules}
 use Rattle.std.proofs.lemmas.Bool.{cond-true, cond-false}
 use Rattle.std.proofs.lemmas.List.Elements.{All-map, Contains-get_or}
 use Rattle.std.proofs.lemmas.Grind.{common_steps}
@@ -107,7 +107,17 @@ module _ (p : ContiguousView) (at : Places) (h : IsContiguous p at) where
 
   reads-on : (anchored : Anchored) (w : List ℕ) (b : ℕ) → b < 256 → leads_on p.built (Some w) b ≡ true
       → ReadsStep anchored (Some w) b
-  reads-on anchored w b byte leads = search (rules, after-fail, one-look, step-longer, target-longer)
+  reads-on anchored w b byte leads =
+      let c = plain_byte p.built.ignores_case b in
+      let target = target-longer anchored w b byte leads in
+      record {
+        leads = λ some. record {
+          number = target ∙ longer-number anchored w c ∙ ap (number_at at anchored) (sym (step-longer anchored w b leads));
+          looks = one-look anchored w b leads;
+        };
+        ends = λ fail yes. absurd (after-fail anchored w c leads (sym target ∙ fail));
+        goes = λ fail no. absurd (after-fail anchored w c leads (sym target ∙ fail));
+      }
 
   -- where the start goes on by a byte that doesn't lead on, it isn't FAIL
   home-not-fail : (v : Node) → (v ≡ None) ⊎ (v ≡ Some []) → number_at at No v ≢ FAIL
@@ -133,19 +143,22 @@ module _ (p : ContiguousView) (at : Places) (h : IsContiguous p at) where
   reads-inner : (x : ℕ) (w : List ℕ) (b : ℕ) → b < 256 → leads_on p.built (Some (x ∷ w)) b ≡ false
       → ReadsStep No (Some (x ∷ w)) b
   reads-inner x w b byte none =
-      search (
-        rules,
-        depth-failure,
-        failure-node,
-        looks-on,
-        no-target,
-        own-none,
-        step-on,
-        own-none (x ∷ w) b none,
-        failure-node p.built.kind (plain_of p.built) x w,
-        step-on p.built.kind (plain_of p.built) (Some (x ∷ w)) (plain_byte p.built.ignores_case b) (own-none (x ∷ w) b none) (omega arith),
-        looks-on p.built.kind (plain_of p.built) (Some (x ∷ w)) (plain_byte p.built.ignores_case b) (own-none (x ∷ w) b none) (omega arith),
-      )
+      let off = own-none (x ∷ w) b none in
+      let target = no-target p at h.apart FAIL (x ∷ w) b byte none in
+      let kind = p.built.kind in
+      let patterns = plain_of p.built in
+      let c = plain_byte p.built.ignores_case b in
+      record {
+        leads = λ some. absurd (some target);
+        ends = λ fail yes. absurd cc;
+        goes = λ fail no. record {
+          failure = refl;
+          node = failure-node kind patterns x w;
+          steps = step-on kind patterns (Some (x ∷ w)) c off (omega arith);
+          looks = looks-on kind patterns (Some (x ∷ w)) c off (omega arith);
+          shorter = omega (arith, depth-failure kind patterns x w);
+        };
+      }
 
   -- what is read at any state
   pub reads : (anchored : Anchored) (v : Node) (b : ℕ) → b < 256 → ReadsStep anchored v b
