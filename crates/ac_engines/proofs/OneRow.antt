@@ -29,7 +29,11 @@ module _ (f : Filling) (nodes : List Node) (size s : ℕ) (w : List ℕ) (h : Ha
   -- an anchored row is filled once its own transitions are set
   pub anchored-filled : (old new : List ℕ) → MayFillRow f nodes size s w Yes old
       → HasSet p Yes w (transition_bytes_of p.built (Some w)) old new → HasFilled p Yes w old new
-  anchored-filled old new m set = search (rules, beside-row, filled-anchored, narrow)
+  anchored-filled old new m set = record {
+    same_length = set.same_length;
+    beside = beside-row (row_at p Yes (Some w)) old new set.beside;
+    filled = filled-anchored p (narrow f nodes size h.may) w old new m.blank set;
+  }
 
   -- where a byte leads from the start that leads on
   start-own : (b : ℕ) → leads_on p.built (Some []) b ≡ true

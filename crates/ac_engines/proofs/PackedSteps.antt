@@ -86,7 +86,7 @@ module _ (p : ContiguousView) (at : Places) (h : IsContiguous p at) where
   -- no string's number is FAIL
   after-fail : (anchored : Anchored) (w : List ℕ) (c : ℕ)
       → IsNode p.built.kind (plain_of p.built) (Some (w ++ c ∷ [])) → at.place (w ++ c ∷ []) ≢ FAIL
-  after-fail anchored w c node e = grind (arith, common_steps, longer-number anchored w c)
+  after-fail anchored w c node e = absurd (omega (arith, h.after anchored (w ++ c ∷ []) node, longer-number anchored w c))
 
   -- so each transition leads to a state
   own-named : (w : List ℕ) → AreNamed (edges_of p at w)
@@ -134,11 +134,23 @@ module _ (p : ContiguousView) (at : Places) (h : IsContiguous p at) where
   home-is false = inr refl
 
   reads-start : (b : ℕ) → b < 256 → leads_on p.built (Some []) b ≡ false → ReadsStep No (Some []) b
-  reads-start b byte none = search (rules, home-is, home-not-fail, no-target, own-none, step-fallback)
+  reads-start b byte none =
+      let target = no-target p at h.apart (number_at at No (onward (Some []))) [] b byte none in
+      let step_is = step-fallback p.built.kind (plain_of p.built) (Some []) (plain_byte p.built.ignores_case b)
+      (own-none [] b none) refl in
+      record {
+        leads = λ some. record { number = target ∙ ap (number_at at No) (sym step_is); looks = refl };
+        ends = λ fail yes. absurd cc;
+        goes = λ fail no. absurd (home-not-fail (onward (Some [])) (home-is _) (sym target ∙ fail));
+      }
 
   reads-anchored : (w : List ℕ) (b : ℕ) → target_of p at Yes (Some w) b ≡ FAIL → leads_on p.built (Some w) b ≡ false
       → ReadsStep Yes (Some w) b
-  reads-anchored w b target none = grind (arith, common_steps)
+  reads-anchored w b target none = record {
+    leads = λ some. absurd (some target);
+    ends = λ fail yes. own-none w b none;
+    goes = λ fail no. absurd cc;
+  }
 
   reads-inner : (x : ℕ) (w : List ℕ) (b : ℕ) → b < 256 → leads_on p.built (Some (x ∷ w)) b ≡ false
       → ReadsStep No (Some (x ∷ w)) b
