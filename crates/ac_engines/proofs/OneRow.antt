@@ -1,5 +1,5 @@
 -- How one row of a DFA is filled.
-use Rattle.std.proofs.Common.{◌≡◌, ◌≢◌, ◌⊎◌, inl, inr, ℕ, ◌+◌, ◌<◌, ◌≤◌, Bool, true, false, cond, List, [], ◌∷◌, length, slice_index_or, refl, ap, sym, ◌∙◌, arith, Some, None, if◌then◌else◌, rules}
+use Rattle.std.proofs.Common.{◌≡◌, ◌≢◌, ◌⊎◌, inl, inr, ℕ, ◌+◌, ◌<◌, ◌≤◌, Bool, true, false, cond, List, [], ◌∷◌, length, slice_get, slice_index_or, refl, ap, sym, ◌∙◌, arith, Some, None, if◌then◌else◌, rules}
 use Rattle.std.specs.List.{CopiedTo, SameBelow, SameFrom}
 use Rattle.std.proofs.lemmas.Bool.{false≢true}
 use Rattle.std.proofs.lemmas.Grind.{common_steps}
@@ -19,6 +19,13 @@ module _ (f : Filling) (nodes : List Node) (size s : ℕ) (w : List ℕ) (h : Ha
   -- the sheet of the table
   abbrev p : RowInput
   p = row_input f nodes
+
+  -- a string that isn't empty stands after the starts
+  pub inner-row : w ≢ [] → 4 ≤ s
+  inner-row some = elim h.place [
+    | inl start ↦ absurd (some (let same = sym h.named ∙ ap (slice_get nodes) start ∙ h.may.are_nodes.start in cc))
+    | inr inner ↦ inner
+  ]
 
   -- what was changed within the classes was changed within the row
   beside-row : (row : ℕ) (old new : List ℕ) → SameBeside row (alphabet_len f.classes) old new
