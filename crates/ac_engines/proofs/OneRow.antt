@@ -1,5 +1,5 @@
 -- How one row of a DFA is filled.
-use Rattle.std.proofs.Common.{◌≡◌, ◌≢◌, ◌⊎◌, inl, inr, ℕ, ◌+◌, ◌<◌, ◌≤◌, Bool, true, false, cond, List, [], ◌∷◌, length, slice_get, slice_index_or, refl, ap, sym, ◌∙◌, arith, Some, None, if◌then◌else◌, rules}
+use Rattle.std.proofs.Common.{◌≡◌, ◌≢◌, ◌⊎◌, inl, inr, ℕ, ◌+◌, ◌<◌, ◌≤◌, Bool, true, false, cond, List, [], ◌∷◌, length, slice_get, slice_index_or, refl, ap, sym, ◌∙◌, arith, Some, None, if◌then◌else◌}
 use Rattle.std.specs.List.{CopiedTo, SameBelow, SameFrom}
 use Rattle.std.proofs.lemmas.Bool.{false≢true}
 use Rattle.std.proofs.lemmas.Grind.{common_steps}

@@ -1,4 +1,4 @@
-use Rattle.std.proofs.Common.{◌≡◌, ◌≤◌, ◌∷◌, length, slice_index_or, ap, sym, subst, arith, inl, inr, ◌∙◌, Some, refl, slice_get}
+use Rattle.std.proofs.Common.{◌≡◌, ◌∷◌, length, slice_index_or, ap, sym, subst, arith, inl, inr, ◌∙◌, Some, refl, slice_get}
 use Rattle.std.proofs.lemmas.Option.{slice_get_within}
 use Rattle.ac_automaton.specs.Util.{alphabet_len, failure}
 use Rattle.ac_automaton.specs.Prelude.{AreNodes, plain_of, Trie}

@@ -1,5 +1,5 @@
 use Rattle.std.proofs.Common.{ap, sym, subst, ◌∙◌}
-use Rattle.ac_engines.specs.Prelude.{Format, HasWords, One, Packer, PackPlan}
+use Rattle.ac_engines.specs.Prelude.{Format, HasWords, One, Packer}
 use Rattle.ac_engines.specs.Contiguous.Plans.{HasFormat}
 use Rattle.ac_engines.proofs.PackedNodes.{no-matches}
 use Rattle.ac_engines.proofs.nfa.contiguous.pack.Packer.push.Goals as goal

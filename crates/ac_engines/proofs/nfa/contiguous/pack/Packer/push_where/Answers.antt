@@ -1,7 +1,6 @@
 use Rattle.std.proofs.Common.{◌≡◌, ◌++◌, ap, sym, subst, ◌∙◌, arith, length, Some, slice_get}
 use Rattle.std.specs.Cmp.{booleans_Decides}
 use Rattle.std.proofs.lemmas.Bool.{false≢true}
-use Rattle.std.proofs.lemmas.Grind.{common_steps}
 use Rattle.ac_engines.specs.Prelude.{has_matches, HasWords, MayPack, Packer, PackPlan, state_words}
 use Rattle.ac_engines.proofs.PlanSums.{has-words, named-below, plan-states}
 use Rattle.ac_engines.proofs.Pushing.{HasPushedUpTo, passed-over, pushed-all, pushed-next, pushed-none}
