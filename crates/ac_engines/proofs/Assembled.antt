@@ -1,5 +1,5 @@
 -- A DFA whose rows are laid out and filled.
-use Rattle.std.proofs.Common.{◌≡◌, ◌≢◌, ◌⊎◌, inl, inr, ℕ, zero, suc, ◌+◌, ◌-◌, ◌*◌, ◌^◌, ◌<◌, ◌≤◌, Bool, true, false, List, [], ◌∷◌, length, slice_index_or, refl, ap, ◌∙◌, arith, Some, None, rules}
+use Rattle.std.proofs.Common.{◌≡◌, ◌≢◌, ◌⊎◌, inl, inr, ℕ, zero, suc, ◌+◌, ◌-◌, ◌*◌, ◌^◌, ◌<◌, ◌≤◌, Bool, true, false, List, [], ◌∷◌, length, slice_index_or, refl, ap, sym, ◌∙◌, arith, Some, None, rules}
 use Rattle.std.proofs.lemmas.Option.{slice_get_within}
 use Rattle.std.proofs.lemmas.Bool.{cases_lt}
 use Rattle.std.proofs.lemmas.Grind.{common_steps}
@@ -65,7 +65,14 @@ pub planned : (trie : Trie) (start_kind : StartKind) (byte_classes : Bool) (clas
     → rows_refusal start_kind classes (state_count trie.built.kind (plain_of trie.built)) ≡ None
     → IsPlanned trie start_kind classes exponent width len
 planned trie start_kind byte_classes classes exponent width len class two wide long allowed =
-    grind (arith, common_steps, has-classes trie.built byte_classes classes exponent class two, few-entries)
+    let rows = table_rows start_kind (state_count trie.built.kind (plain_of trie.built)) in
+    record {
+      has = has-classes trie.built byte_classes classes exponent class two;
+      width_is = wide ∙ ap (λ (k : ℕ). 2 ^ k) (sym two);
+      len_is = long ∙ ap (λ (k : ℕ). rows * 2 ^ k) (sym two);
+      few = grind (arith, common_steps, few-entries rows (2 ^ exponent));
+      allowed = allowed;
+    }
 
 module _ (trie : Trie) (start_kind : StartKind) (classes : List ℕ) (exponent : ℕ) (numbers : List ℕ)
     (nodes : List Node) (size : ℕ) where
