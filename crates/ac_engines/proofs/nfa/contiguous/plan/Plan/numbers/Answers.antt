@@ -2,7 +2,7 @@ use Rattle.std.proofs.Common.{◌≡◌, ◌+◌, ◌≤◌, ℕ, Bool, List, So
 use Rattle.ac_util.specs.Node.{Node}
 use Rattle.ac_automaton.specs.Util.{BuildError}
 use Rattle.ac_engines.specs.Contiguous.Plans.{IsMemoryUnless, MayPack, all_words, size_of}
-use Rattle.ac_engines.proofs.PlanSums.{TakesSize, back-within, before, before-starts, front-within, has-words, named-below, placed-more, places-first, plan-states, sizes-whole, takes}
+use Rattle.ac_engines.proofs.PlanSums.{TakesSize, all-placed, back-within, before-starts, front-within, has-words, named-below, placed-more, places-first, plan-states, takes}
 use Rattle.ac_engines.proofs.nfa.contiguous.plan.Plan.numbers.Goals.{then-is_match+in_ok-push_number, else-is_match+in_ok-push_number-2}
 use Rattle.ac_engines.proofs.nfa.contiguous.plan.Plan.numbers.Goals as goal
 
@@ -108,5 +108,4 @@ returns-clause-all g c =
     let states = plan-states _ q nodes _ may c.self.view_is c.states_len-state-end.ensures.value in
     let all : c.loop-state.state ≡ length nodes =
     omega (arith, states, c.loop-state-test.false, c.loop-state.auto.state-end, may.are_nodes.numbered.count) in
-    let back = ap (λ n. before q nodes false n) all in
-    omega (arith, (c.loop-state.invariant nodes may).back_is, back, sizes-whole q nodes may)
+    all-placed q nodes may c.loop-state.state c.loop-state.back all (c.loop-state.invariant nodes may).back_is
