@@ -1,5 +1,5 @@
 -- A DFA whose rows are laid out and filled.
-use Rattle.std.proofs.Common.{◌≡◌, ◌≢◌, ◌⊎◌, inl, inr, ℕ, zero, suc, ◌+◌, ◌-◌, ◌*◌, ◌^◌, ◌<◌, ◌≤◌, Bool, true, false, List, [], ◌∷◌, length, slice_index_or, refl, ap, ◌∙◌, arith, Some, None, rules}
+use Rattle.std.proofs.Common.{◌≡◌, ◌≢◌, ◌⊎◌, inl, inr, ℕ, zero, suc, ◌+◌, ◌-◌, ◌*◌, ◌^◌, ◌<◌, ◌≤◌, Bool, true, false, List, [], ◌∷◌, length, slice_index_or, refl, ap, sym, ◌∙◌, arith, Some, None, rules}
 use Rattle.std.proofs.lemmas.Option.{slice_get_within}
 use Rattle.std.proofs.lemmas.Bool.{cases_lt}
 use Rattle.std.proofs.lemmas.Grind.{common_steps}
@@ -41,7 +41,13 @@ pub record HasClasses (built : Built) (classes : List ℕ) (exponent : ℕ) : Ty
 has-classes : (built : Built) (byte_classes : Bool) (classes : List ℕ) (exponent : ℕ)
     → classes ≡ classes_by byte_classes built.ignores_case built.patterns → exponent ≡ stride2 classes
     → HasClasses built classes exponent
-has-classes built byte_classes classes exponent e f = grind (arith, common_steps, classes_by-AreClasses, classes_by-set_apart, stride-enough)
+has-classes built byte_classes classes exponent e f =
+    let are : AreClasses classes = rw e (classes_by-AreClasses byte_classes built.ignores_case built.patterns) in
+    record {
+      are = are;
+      apart = rw e (classes_by-set_apart byte_classes built.ignores_case built.patterns);
+      room = rw f (stride-enough classes are);
+    }
 
 -- what a build knows before it lays out rows: the classes, how long a row is, and how many entries there are
 pub record IsPlanned (trie : Trie) (start_kind : StartKind) (classes : List ℕ) (exponent width len : ℕ) : Type 0 where
@@ -59,7 +65,14 @@ pub planned : (trie : Trie) (start_kind : StartKind) (byte_classes : Bool) (clas
     → rows_refusal start_kind classes (state_count trie.built.kind (plain_of trie.built)) ≡ None
     → IsPlanned trie start_kind classes exponent width len
 planned trie start_kind byte_classes classes exponent width len class two wide long allowed =
-    grind (arith, common_steps, has-classes trie.built byte_classes classes exponent class two, few-entries)
+    let rows = table_rows start_kind (state_count trie.built.kind (plain_of trie.built)) in
+    record {
+      has = has-classes trie.built byte_classes classes exponent class two;
+      width_is = wide ∙ ap (λ (k : ℕ). 2 ^ k) (sym two);
+      len_is = long ∙ ap (λ (k : ℕ). rows * 2 ^ k) (sym two);
+      few = grind (arith, common_steps, few-entries rows (2 ^ exponent));
+      allowed = allowed;
+    }
 
 module _ (trie : Trie) (start_kind : StartKind) (classes : List ℕ) (exponent : ℕ) (numbers : List ℕ)
     (nodes : List Node) (size : ℕ) where
@@ -122,7 +135,16 @@ module _ (trie : Trie) (start_kind : StartKind) (classes : List ℕ) (exponent :
     strings-apart : (s t : ℕ) (v w : List ℕ) → HasRow filling nodes size s v → HasRow filling nodes size t w → v ≢ w
         → (first_row_in nodes numbers v + width (row_input filling nodes) ≤ first_row_in nodes numbers w)
         ⊎ (first_row_in nodes numbers w + width (row_input filling nodes) ≤ first_row_in nodes numbers v)
-    strings-apart s t v w one two other = search (rules, cases_lt, ordered-apart)
+    strings-apart s t v w one two other =
+        elim (cases_lt s t) [
+          | inl less ↦ ordered-apart s t v w one two less
+          | inr no_less ↦ elim (cases_lt t s) [
+            | inl less ↦ elim (ordered-apart t s w v two one less) [ inl after ↦ inr after | inr before ↦ inl before ]
+            | inr no_more ↦
+                let same : s ≡ t = omega arith in
+                let first = one.named in let second = two.named in absurd (other (let e : v ≡ w = cc in e))
+          ]
+        ]
 
     module _ (entries : List ℕ) (lists : List (List ℕ)) (first end : ℕ)
         (filled : FilledUpTo filling nodes size (length nodes) entries)
@@ -182,7 +204,11 @@ module _ (trie : Trie) (start_kind : StartKind) (classes : List ℕ) (exponent :
 
           filled-row : (w : List ℕ) → (s : ℕ) × HasRow filling nodes size s w → (anchored : Anchored)
               → start_refusal start_kind anchored ≡ None → IsFilled (row_input filling nodes) anchored (Some w) entries
-          filled-row w state anchored supported = search (rules, slice_get_within)
+          filled-row w state anchored supported =
+              let row = state.1 in
+              filled.filled state.0 (Some w) (slice_get_within nodes state.0 (Some w) row.named)
+              (λ other. elim row.place [ inl start ↦ absurd (omega arith) | inr inner ↦ absurd (omega arith) ])
+              row.named anchored supported
 
           row-of : (w : List ℕ) → IsNode trie.built.kind (plain_of trie.built) (Some w) → (anchored : Anchored)
               → (row : ℕ) × (first_row_in nodes numbers w + anchored_shift start_kind anchored (2 ^ exponent) ≡ row * 2 ^ exponent)

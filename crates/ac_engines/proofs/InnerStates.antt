@@ -1,5 +1,5 @@
 -- The states after the starts, and the strings that they stand for.
-use Rattle.std.proofs.Common.{◌≡◌, ◌≢◌, ℕ, ◌≤◌, List, [], ◌∷◌, Some, refl, ◌∙◌, slice_get}
+use Rattle.std.proofs.Common.{◌≡◌, ◌≢◌, ℕ, suc, zero, ◌<◌, ◌≤◌, List, [], ◌∷◌, Some, refl, ◌∙◌, arith, slice_get}
 use Rattle.std.proofs.lemmas.Option.{slice_get_within}
 use Rattle.ac_util.specs.Node.{Node}
 use Rattle.ac_automaton.specs.Prelude.{AreNodes, Trie}
@@ -25,3 +25,12 @@ inner-long trie nodes s u h inner named =
     let there = at.1.named in
     let same : u ≡ Some at.0 = cc in
     record { first = long.first; rest = long.rest; node = same ∙ long.node }
+
+-- a start stands for the empty one
+pub start-empty : (trie : Trie) (nodes : List Node) (s : ℕ) (u : Node) → AreNodes trie nodes → 2 ≤ s → s < 4
+    → slice_get nodes s ≡ Some u → u ≡ Some []
+start-empty trie nodes zero u h reached below named = absurd (omega arith)
+start-empty trie nodes (suc zero) u h reached below named = absurd (omega arith)
+start-empty trie nodes (suc (suc zero)) u h reached below named = let start = h.start in cc
+start-empty trie nodes (suc (suc (suc zero))) u h reached below named = let start = h.anchored_start in cc
+start-empty trie nodes (suc (suc (suc (suc s)))) u h reached below named = absurd (omega arith)

@@ -23,6 +23,7 @@ pub mod PackedStates
 pub mod PackedSteps
 pub mod PackedSums
 pub mod Places
+pub mod PlanStates
 pub mod PlanSums
 pub mod PushedStates
 pub mod Pushing

@@ -1,5 +1,5 @@
 -- How one row of a DFA is filled.
-use Rattle.std.proofs.Common.{◌≡◌, ◌≢◌, ◌⊎◌, inl, inr, ℕ, ◌+◌, ◌<◌, ◌≤◌, Bool, true, false, cond, List, [], ◌∷◌, length, slice_index_or, refl, ap, sym, ◌∙◌, arith, Some, None, if◌then◌else◌, rules}
+use Rattle.std.proofs.Common.{◌≡◌, ◌≢◌, ◌⊎◌, inl, inr, ℕ, ◌+◌, ◌<◌, ◌≤◌, Bool, true, false, cond, List, [], ◌∷◌, length, slice_get, slice_index_or, refl, ap, sym, ◌∙◌, arith, Some, None, if◌then◌else◌}
 use Rattle.std.specs.List.{CopiedTo, SameBelow, SameFrom}
 use Rattle.std.proofs.lemmas.Bool.{false≢true}
 use Rattle.std.proofs.lemmas.Grind.{common_steps}
@@ -20,6 +20,13 @@ module _ (f : Filling) (nodes : List Node) (size s : ℕ) (w : List ℕ) (h : Ha
   abbrev p : RowInput
   p = row_input f nodes
 
+  -- a string that isn't empty stands after the starts
+  pub inner-row : w ≢ [] → 4 ≤ s
+  inner-row some = elim h.place [
+    | inl start ↦ absurd (some (let same = sym h.named ∙ ap (slice_get nodes) start ∙ h.may.are_nodes.start in cc))
+    | inr inner ↦ inner
+  ]
+
   -- what was changed within the classes was changed within the row
   beside-row : (row : ℕ) (old new : List ℕ) → SameBeside row (alphabet_len f.classes) old new
       → SameBeside row f.stride old new
@@ -29,7 +36,11 @@ module _ (f : Filling) (nodes : List Node) (size s : ℕ) (w : List ℕ) (h : Ha
   -- an anchored row is filled once its own transitions are set
   pub anchored-filled : (old new : List ℕ) → MayFillRow f nodes size s w Yes old
       → HasSet p Yes w (transition_bytes_of p.built (Some w)) old new → HasFilled p Yes w old new
-  anchored-filled old new m set = search (rules, beside-row, filled-anchored, narrow)
+  anchored-filled old new m set = record {
+    same_length = set.same_length;
+    beside = beside-row (row_at p Yes (Some w)) old new set.beside;
+    filled = filled-anchored p (narrow f nodes size h.may) w old new m.blank set;
+  }
 
   -- where a byte leads from the start that leads on
   start-own : (b : ℕ) → leads_on p.built (Some []) b ≡ true
@@ -58,7 +69,8 @@ module _ (f : Filling) (nodes : List Node) (size s : ℕ) (w : List ℕ) (h : Ha
 
       go : (b : ℕ) → b < 256 → (t : Bool) → leads_on p.built (Some []) b ≡ t
           → entry p.classes new (row_at p No (Some [])) b ≡ row_at p No (step_of p.built No (Some []) b)
-      go b byte true own = search (rules, start-own, transition_bytes_of-has)
+      go b byte true own =
+          set.own b byte (transition_bytes_of-has p.built (Some []) b byte own) ∙ ap (row_at p No) (sym (start-own b own))
       go b byte false none =
           set.others b byte (λ has. false≢true (sym none ∙ transition_bytes_of-only p.built (Some []) b has))
           ∙ leads b byte ∙ ap (row_at p No) (sym (misses b none))
@@ -112,4 +124,7 @@ module _ (f : Filling) (nodes : List Node) (size s : ℕ) (w : List ℕ) (h : Ha
 
       copied-entry : (b : ℕ) → b < 256 → entry p.classes copied (row_at p No (Some w)) b
           ≡ entry p.classes old (row_at p No (failure p.built.kind (plain_of p.built) w)) b
-      copied-entry b byte = search rules
+      copied-entry b byte =
+          let below = h.may.below b byte in
+          copies (row_at p No (Some w) + class_at p.classes b) 0 (omega arith) (omega arith)
+          ∙ ap (λ (k : ℕ). slice_index_or old k 0) (omega arith)

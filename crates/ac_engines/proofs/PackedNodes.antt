@@ -17,6 +17,7 @@ use Rattle.ac_engines.specs.Prelude.{anchored_of, AreReady, ContiguousView, Edge
 use Rattle.ac_engines.specs.Contiguous.Plans.{match_len_of}
 use Rattle.ac_engines.specs.Contiguous.Words.{Fits}
 use Rattle.ac_engines.proofs.Filled.{transition_bytes_of-only, transition_bytes_of-small}
+use Rattle.ac_engines.proofs.InnerStates.{start-empty}
 use Rattle.ac_engines.proofs.MatchCounts.{matches-few, matches-numbered}
 use Rattle.ac_engines.proofs.Numbered.{inner-string, place-inner, place-start}
 
@@ -57,7 +58,19 @@ module _ (p : ContiguousView) (at : Places) where
   matches-format_words Yes (Some []) = refl
   matches-format_words anchored (Some (x ∷ w)) = refl
 
+  -- a start has no failure target
+  start-failure : (anchored : Anchored) → 0 ≡ (packed_at p at anchored (Some [])).failure
+  start-failure No = refl
+  start-failure Yes = refl
+
 module _ (f : Packer) (nodes : List Node) (h : AreReady f nodes) where
+  -- nor does its state
+  pub failure-start : (s : ℕ) (u : Node) → 2 ≤ s → s < 4 → slice_get nodes s ≡ Some u
+      → 0 ≡ (packed_state f nodes s u).failure
+  failure-start s u reached below named =
+      rw (start-empty f.plan.trie nodes s u h.may.are_nodes reached below named)
+      (start-failure (packed_of f.plan nodes f.numbers []) (places_of f.plan nodes f.numbers) (anchored_of s))
+
   -- where a state stands that is none of the starts for anchored searches
   pub number-format_words : (t : ℕ) (v : Node) → slice_get nodes t ≡ Some v → t ≢ 3
       → slice_index_or f.numbers t 0 ≡ number_at (places_of f.plan nodes f.numbers) No v
@@ -66,14 +79,16 @@ module _ (f : Packer) (nodes : List Node) (h : AreReady f nodes) where
   number-format_words (suc zero) None named other = h.places.each 1 (slice_get_within nodes 1 None named)
   number-format_words (suc zero) (Some w) named other = let dead = h.may.are_nodes.unreached in absurd cc
   number-format_words (suc (suc zero)) None named other = let start = h.may.are_nodes.start in absurd cc
-  number-format_words (suc (suc zero)) (Some []) named other = search (rules, place-start)
+  number-format_words (suc (suc zero)) (Some []) named other =
+      sym (place-start f.plan.trie nodes h.may.are_nodes f.numbers h.places.count)
   number-format_words (suc (suc zero)) (Some (x ∷ w)) named other = let start = h.may.are_nodes.start in absurd cc
   number-format_words (suc (suc (suc zero))) v named other = absurd (other refl)
   number-format_words (suc (suc (suc (suc t)))) None named other =
       let within = slice_get_within nodes (suc (suc (suc (suc t)))) None named in
       let node = (h.may.are_nodes.numbered.node (suc (suc (suc (suc t)))) (omega arith) within).1.named in
       absurd cc
-  number-format_words (suc (suc (suc (suc t)))) (Some []) named other = search (rules, inner-string)
+  number-format_words (suc (suc (suc (suc t)))) (Some []) named other =
+      absurd (inner-string f.plan.trie nodes h.may.are_nodes (suc (suc (suc (suc t)))) [] (omega arith) named refl)
   number-format_words (suc (suc (suc (suc t)))) (Some (x ∷ w)) named other =
       sym (place-inner f.plan.trie nodes h.may.are_nodes f.numbers (suc (suc (suc (suc t)))) (x ∷ w) h.places.count
       (omega arith) named)
@@ -85,8 +100,9 @@ module _ (f : Packer) (nodes : List Node) (h : AreReady f nodes) where
       → slice_index_or f.numbers t 0 ≡ (packed_state f nodes s u).failure
   failure-format_words s t None inner named other target =
       let string = (string-of f.plan.trie nodes h.may.are_nodes s None (omega arith) named).is in absurd cc
-  failure-format_words s t (Some []) inner named other target = search (rules, inner-string)
-  failure-format_words s t (Some (x ∷ w)) inner named other target = search (rules, number-format_words)
+  failure-format_words s t (Some []) inner named other target =
+      absurd (inner-string f.plan.trie nodes h.may.are_nodes s [] inner named refl)
+  failure-format_words s t (Some (x ∷ w)) inner named other target = number-format_words t _ (target x w named) other
 
   -- by a byte that doesn't lead on no state but the unanchored start leads anywhere
   pub default_target-fails : (s : ℕ) (u : Node) → 2 ≤ s → s ≢ 2 → slice_get nodes s ≡ Some u
@@ -97,7 +113,8 @@ module _ (f : Packer) (nodes : List Node) (h : AreReady f nodes) where
   default_target-fails (suc zero) (Some []) reached other named = absurd (omega arith)
   default_target-fails (suc (suc zero)) (Some []) reached other named = absurd (other refl)
   default_target-fails (suc (suc (suc zero))) (Some []) reached other named = refl
-  default_target-fails (suc (suc (suc (suc s)))) (Some []) reached other named = search (rules, inner-string)
+  default_target-fails (suc (suc (suc (suc s)))) (Some []) reached other named =
+      absurd (inner-string f.plan.trie nodes h.may.are_nodes (suc (suc (suc (suc s)))) [] (omega arith) named refl)
   default_target-fails s (Some (x ∷ w)) reached other named = refl
 
   -- the unanchored start leads back to itself, or to the dead state where it stops there
@@ -116,13 +133,16 @@ module _ (f : Packer) (nodes : List Node) (h : AreReady f nodes) where
   -- and has a place
   pub own-numbered : (w : List ℕ) (index byte next : ℕ) → IsOwn f.plan.trie nodes w index byte next
       → next < length f.numbers
-  own-numbered w index byte next own = search (rules, slice_get_within)
+  own-numbered w index byte next own = rw h.places.count (slice_get_within nodes next _ own.leads)
 
   -- how many transitions are spelled
   pub edges-count : (s : ℕ) (u : Node) → 2 ≤ s → slice_get nodes s ≡ Some u
       → length (packed_state f nodes s u).edges ≡ length (transition_bytes_of f.plan.trie.built u)
-  edges-count s None reached named = search (rules, string-of f.plan.trie nodes h.may.are_nodes s None reached named)
-  edges-count s (Some w) reached named = search (rules, edges-format_words, length-map)
+  edges-count s None reached named =
+      let string = (string-of f.plan.trie nodes h.may.are_nodes s None reached named).is in absurd cc
+  edges-count s (Some w) reached named =
+      rw (edges-format_words (packed_of f.plan nodes f.numbers []) (places_of f.plan nodes f.numbers) (anchored_of s) w)
+      (length-map _ _)
 
   -- an own transition is spelled at its place
   pub edge-at : (s index byte next : ℕ) (u : Node) → 2 ≤ s → slice_get nodes s ≡ Some u
@@ -240,11 +260,22 @@ pub state-spells : (f : Packer) (nodes : List Node) → AreReady f nodes → (s 
 state-spells f nodes h s None reached named =
     let string = (string-of f.plan.trie nodes h.may.are_nodes s None reached named).is in absurd cc
 state-spells f nodes h s (Some w) reached named =
-    search (rules, alphabet_len-few, edges-ascend, edges-below, edges-format_words, matches-below, matches-small, matches-format_words, string-fits)
+    let p = packed_of f.plan nodes f.numbers [] in
+    let at = places_of f.plan nodes f.numbers in
+    let edges = edges-format_words p at (anchored_of s) w in
+    let matches = matches-format_words p at (anchored_of s) (Some w) in
+    record {
+      fits = string-fits f nodes s w;
+      few = alphabet_len-few f.plan.classes h.may.classes;
+      below = rw edges (edges-below f.plan nodes h.may [] f.numbers w);
+      ascending = rw edges (edges-ascend f.plan nodes h.may [] f.numbers w);
+      few_matches = rw matches (matches-below f.plan nodes h.may (Some w));
+      numbers = λ k. rw matches (matches-small f.plan nodes h.may (Some w) k);
+    }
 
 -- a node without matches has none
 pub no-matches : (q : PackPlan) (nodes : List Node) (u : Node) → has_matches q nodes u ≡ false → 0 ≡ match_len_of q u
-no-matches q nodes u none = search (rules, ltb-false)
+no-matches q nodes u none = omega (arith, ltb-false 0 (match_len_of q u) none)
 
 -- the only transition is the first one
 pub only-edge : (edges : List Edge) (e : Edge) → length edges ≡ 1 → slice_get edges 0 ≡ Some e → edges ≡ e ∷ []
@@ -276,4 +307,6 @@ module _ (f : Packer) (nodes : List Node) (h : AreReady f nodes) (s : ℕ) (u : 
 pub format_words-by_parts : (format new_format : Format) (classes new_classes : ℕ) (s t : PackedState) → format ≡ new_format
     → classes ≡ new_classes → s.failure ≡ t.failure → s.default_target ≡ t.default_target → s.edges ≡ t.edges
     → s.matches ≡ t.matches → format_words format classes s ≡ format_words new_format new_classes t
-format_words-by_parts format new_format classes new_classes s t same_format same_classes fails misses edges matches = grind (arith, common_steps)
+format_words-by_parts format new_format classes new_classes s t same_format same_classes fails misses edges matches = λ i.
+    format_words (same_format i) (same_classes i)
+    (record { failure = fails i; default_target = misses i; edges = edges i; matches = matches i })

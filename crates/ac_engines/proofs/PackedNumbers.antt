@@ -1,7 +1,6 @@
 -- What the number of a packed state says.
-use Rattle.std.proofs.Common.{◌≡◌, ◌≢◌, ℕ, ◌<◌, ◌≤◌, ◌⊎◌, ◌↔◌, List, [], ◌∷◌, drop, inl, inr, length, refl, ap, subst, sym, ◌∙◌, arith, Some, None, slice_index_or, rules}
+use Rattle.std.proofs.Common.{◌≡◌, ◌≢◌, ℕ, ◌<◌, ◌≤◌, ◌⊎◌, ◌↔◌, List, [], ◌∷◌, drop, inl, inr, length, refl, ap, subst, sym, ◌∙◌, arith, Some, None, slice_index_or}
 use Rattle.std.specs.List.{All}
-use Rattle.std.proofs.lemmas.Grind.{common_steps}
 use Rattle.ac_automaton.specs.Util.{alphabet_len, GREATEST, No, Node, Yes}
 use Rattle.ac_util.specs.declared.search.Anchored.{Anchored}
 use Rattle.ac_automaton.specs.Automata.{matches_of}
@@ -20,7 +19,8 @@ module _ (p : ContiguousView) (anchored : Anchored) (s : ℕ) where
   -- the dead node's number is 0, and no other's
   pub dead-number : (u : Node) → IsContiguousState p anchored s u → (s ≡ 0) ↔ (u ≡ None)
   dead-number None h = (λ zero. refl, λ none. h.number)
-  dead-number (Some w) h = grind (arith, common_steps)
+  dead-number (Some w) h =
+      (λ zero. absurd (omega (arith, zero, h.number, h.is_contiguous.after anchored w h.node)), λ none. absurd cc)
 
   -- and no other node's state has one of them
   pub start-number : (u : Node) → IsContiguousState p anchored s u
@@ -32,7 +32,11 @@ module _ (p : ContiguousView) (anchored : Anchored) (s : ℕ) where
       let anchored_start = h.is_contiguous.anchored_start in
       let number = h.number in
       (λ either. elim either [ inl e ↦ absurd (omega arith) | inr e ↦ absurd (omega arith) ], λ none. absurd cc)
-  start-number (Some []) h = grind (arith, common_steps)
+  start-number (Some []) h = (λ either. refl, λ same. which anchored h.number)
+    where
+      which : (anchored : Anchored) → s ≡ number_at h.at anchored (Some []) → (s ≡ p.start) ⊎ (s ≡ p.anchored_start)
+      which No number = inl (number ∙ h.is_contiguous.start)
+      which Yes number = inr (number ∙ h.is_contiguous.anchored_start)
   start-number (Some (x ∷ w)) h =
       let first = h.is_contiguous.longer No (x ∷ w) h.node (λ e. absurd cc) in
       let other = h.is_contiguous.longer Yes (x ∷ w) h.node (λ e. absurd cc) in
@@ -50,8 +54,18 @@ module _ (p : ContiguousView) (anchored : Anchored) (s : ℕ) where
 
   -- a state has matches where its number is less than their end, and isn't 0
   pub match-number : (u : Node) → IsContiguousState p anchored s u → (match_list_at p s ≢ []) ↔ ((s < p.match_end) × (s ≢ 0))
-  match-number None h = grind (arith, common_steps)
-  match-number (Some w) h = search rules
+  match-number None h =
+      (λ some. absurd (some (ap (match_list_at p) h.number)), λ both. absurd (both.1 h.number))
+  match-number (Some w) h =
+      let listed = ap (match_list_at p) h.number ∙ h.is_contiguous.lists anchored w h.node in
+      let matched = h.is_contiguous.matched anchored w h.node in
+      let late = h.is_contiguous.after anchored w h.node in (
+        λ some. (
+          rw h.number (matched.1 (λ none. some (listed ∙ none))),
+          λ zero. absurd (omega (arith, zero, h.number, late)),
+        ),
+        λ both none. matched.0 (subst (λ n. n < p.match_end) h.number both.0) (sym listed ∙ none),
+      )
 
   -- the words there begin with those of a state that spells what is listed
   pub record Begins (there : List ℕ) (classes : ℕ) : Type 0 where

@@ -1,9 +1,8 @@
 -- Packed states, as they stand after one another, mean what they should.
-use Rattle.std.proofs.Common.{◌≡◌, ◌≢◌, ℕ, ◌+◌, ◌<◌, ◌≤◌, ◌↔◌, Bool, true, false, List, [], ◌∷◌, length, drop, None, Some, refl, ap, subst, sym, ◌∙◌, arith, slice_get, slice_index_or, rules}
-use Rattle.std.proofs.lemmas.Bool.{cases_lt, ltb-false}
-use Rattle.std.proofs.lemmas.List.{append_assoc, nil_from_length}
+use Rattle.std.proofs.Common.{◌≡◌, ◌≢◌, inl, inr, ℕ, ◌+◌, ◌<◌, ◌≤◌, ◌↔◌, Bool, true, false, List, [], ◌∷◌, ◌++◌, length, drop, None, Some, refl, ap, subst, sym, ◌∙◌, arith, slice_get, slice_index_or, rules}
+use Rattle.std.proofs.lemmas.Bool.{cases_lt, false≢true, ltb-false}
+use Rattle.std.proofs.lemmas.List.{nil_from_length}
 use Rattle.std.proofs.lemmas.Option.{slice_get_within}
-use Rattle.std.proofs.lemmas.Grind.{common_steps}
 use Rattle.ac_automaton.specs.Util.{alphabet_len, GREATEST, IsNode, No, Node, Yes}
 use Rattle.ac_util.specs.declared.search.Anchored.{Anchored}
 use Rattle.ac_util.proofs.ClassLists.{alphabet_len-few}
@@ -42,8 +41,18 @@ module _ (f : Packer) (nodes : List Node) (ready : AreReady f nodes) (words : Li
 
   pub has-place : (anchored : Anchored) (w : List ℕ)
       → IsNode f.plan.trie.built.kind (plain_of f.plan.trie.built) (Some w) → HasPlace anchored w
-  has-place No [] node = search (rules, place-start f.plan.trie nodes ready.may.are_nodes f.numbers ready.places.count)
-  has-place Yes [] node = grind (arith, common_steps)
+  has-place No [] node =
+      let start = ready.may.are_nodes.start in
+      record {
+        state = 2;
+        reached = omega arith;
+        named = start;
+        number = place-start f.plan.trie nodes ready.may.are_nodes f.numbers ready.places.count ∙ numbered 2 (Some []) start;
+        spells = refl;
+      }
+  has-place Yes [] node =
+      let start = ready.may.are_nodes.anchored_start in
+      record { state = 3; reached = omega arith; named = start; number = numbered 3 (Some []) start; spells = refl }
   has-place anchored (x ∷ w) node =
       let in_list = inner_nodes-has f.plan.trie.built.kind (plain_of f.plan.trie.built) (x ∷ w) node (λ e. absurd cc) in
       let at = ready.may.are_nodes.numbered.each (x ∷ w) in_list in
@@ -79,11 +88,33 @@ module _ (f : Packer) (nodes : List Node) (ready : AreReady f nodes) where
     ends : place_at f.plan nodes s < side t + before f.plan nodes t (s + 1)
     front_within : t ≡ true → place_at f.plan nodes s < front_end f.plan nodes
 
+  -- each state takes some words
+  size-some : (u : Node) → 0 < size_of f.plan nodes u
+  size-some u = words-some (node_format f.plan.trie.built f.plan.dense_depth u) _ _ _
+
   placed-at : (s : ℕ) (u : Node) → 2 ≤ s → slice_get nodes s ≡ Some u → (t : Bool) → t ≡ has_matches f.plan nodes u
       → IsPlacedAt s t
   placed-at s u reached named true is =
-      search (rules, takes f.plan nodes s u reached named true (size_of f.plan nodes u) is refl, total-grows, words-some, slice_get_within)
-  placed-at s u reached named false is = search (rules, takes f.plan nodes s u reached named false (size_of f.plan nodes u) is refl)
+      let step = takes f.plan nodes s u reached named true (size_of f.plan nodes u) is refl in
+      let below = slice_get_within nodes s u named in
+      record {
+        begins = step.place;
+        ends = omega (arith, step.place, step.front, size-some u);
+        front_within = λ matched. omega (
+          arith,
+          step.place,
+          step.front,
+          size-some u,
+          total-grows (size_at f.plan nodes true) (s + 1) (length nodes) (omega (arith, below)),
+        );
+      }
+  placed-at s u reached named false is =
+      let step = takes f.plan nodes s u reached named false (size_of f.plan nodes u) is refl in
+      record {
+        begins = step.place;
+        ends = omega (arith, step.place, step.back, size-some u);
+        front_within = λ matched. absurd (false≢true matched);
+      }
 
   -- two states on one side have two places
   places-beside : (s t : ℕ) (b : Bool) → s < t → IsPlacedAt s b → IsPlacedAt t b
@@ -103,7 +134,9 @@ module _ (f : Packer) (nodes : List Node) (ready : AreReady f nodes) where
       by false false is js =
           places-beside s t false earlier (placed-at s u reached named false is) (placed-at t v (omega arith) other false js) e
       by true false is js =
-          search (rules, placed-at, placed-at s u reached named true is, placed-at t v (omega arith) other false js)
+          let inside = (placed-at s u reached named true is).front_within refl in
+          let begins = (placed-at t v (omega arith) other false js).begins in
+          omega arith
       by false true is js =
           let begins = (placed-at s u reached named false is).begins in
           let ends = (placed-at t v (omega arith) other true js).front_within refl in
@@ -124,7 +157,7 @@ module _ (f : Packer) (nodes : List Node) (ready : AreReady f nodes) where
 
     pub words-long : length words
         ≡ packed_words f.plan.trie.built f.plan.dense_depth (alphabet_len f.plan.classes)
-    words-long = search (rules, front-long, sizes-whole)
+    words-long = omega (arith, after.long, front-long, sizes-whole f.plan nodes ready.may)
 
     -- each state's words begin at its place
     record Begins (s : ℕ) (u : Node) : Type 0 where
@@ -183,7 +216,10 @@ module _ (f : Packer) (nodes : List Node) (ready : AreReady f nodes) where
         → BeginsWith (drop (number_at (places f nodes ready words) anchored u) words)
         (node_format f.plan.trie.built f.plan.dense_depth u) (alphabet_len f.plan.classes)
         (packed_at (packed f nodes ready words) (places f nodes ready words) anchored u)
-    node-begins anchored None node = search (rules, append_assoc, begins-before)
+    node-begins anchored None node =
+        let classes = alphabet_len f.plan.classes in
+        rw (after.same, in_front.same) (begins-before Dense classes packed_dead (dead ++ in_front.pushed) after.pushed 0
+        (omega arith) (begins-before Dense classes packed_dead dead in_front.pushed 0 (omega arith) dead-begins))
     node-begins anchored (Some w) node =
         let at = has-place f nodes ready words anchored w node in
         rw (at.number, sym at.spells) (state-begins at.state (Some w) at.reached at.named).begins
@@ -195,7 +231,7 @@ module _ (f : Packer) (nodes : List Node) (ready : AreReady f nodes) where
 
     has-none : (w : List ℕ) → has_matches f.plan nodes (Some w) ≡ false
         → matches_of f.plan.trie.built No (Some w) ≡ []
-    has-none w is = search (rules, ltb-false, nil_from_length)
+    has-none w is = nil_from_length _ (omega (arith, ltb-false _ _ is))
 
     -- what the spelling of a string lists
     format_words-matches : (anchored : Anchored) (w : List ℕ)
@@ -228,7 +264,12 @@ module _ (f : Packer) (nodes : List Node) (ready : AreReady f nodes) where
               (λ none. has-some w is (sym (format_words-matches anchored w) ∙ none))
               ∙ format_words-matches anchored w;
         }
-    lists-matches anchored w node late false front_if back_if is = search (rules, has-none, listed-none)
+    lists-matches anchored w node late false front_if back_if is =
+        let back = back_if refl in
+        record {
+          matched = (λ below. absurd (omega arith), λ some. absurd (some (has-none w is)));
+          lists = listed-none (packed f nodes ready words) _ back ∙ sym (has-none w is);
+        }
 
     -- what stands at the number of a string
     record StandsWithin (anchored : Anchored) (w : List ℕ) : Type 0 where
@@ -254,14 +295,24 @@ module _ (f : Packer) (nodes : List Node) (ready : AreReady f nodes) where
     -- two states of different nodes have two places
     unlike : (s t : ℕ) (u v : Node) → 2 ≤ s → 2 ≤ t → slice_get nodes s ≡ Some u → slice_get nodes t ≡ Some v → u ≢ v
         → place_at f.plan nodes s ≢ place_at f.plan nodes t
-    unlike s t u v reached other named there differ e = search (rules, cases_lt s t, places-apart, cases_lt t s)
+    unlike s t u v reached other named there differ e =
+        elim (cases_lt s t) [
+          | inl less ↦ places-apart s t u v reached less named there e
+          | inr no_less ↦ elim (cases_lt t s) [
+            | inl less ↦ places-apart t s v u other less there named (sym e)
+            | inr no_more ↦ let same : s ≡ t = omega arith in differ cc
+          ]
+        ]
 
     -- so no string but the empty one has the number of a start
     no-start : (anchored : Anchored) (w : List ℕ) → IsNode f.plan.trie.built.kind (plain_of f.plan.trie.built) (Some w)
         → w ≢ [] → (places f nodes ready words).place w ≢ number_at (places f nodes ready words) anchored (Some [])
     no-start anchored [] node some e = absurd (some refl)
     no-start anchored (x ∷ w) node some e =
-        search (rules, has-place f nodes ready words No (x ∷ w) node, has-place f nodes ready words anchored [] refl, unlike)
+        let at = has-place f nodes ready words No (x ∷ w) node in
+        let start = has-place f nodes ready words anchored [] refl in
+        unlike at.state start.state (Some (x ∷ w)) (Some []) at.reached start.reached at.named start.named
+        (λ same. absurd cc) (sym at.number ∙ e ∙ start.number)
 
     -- the words mean what they should
     pub are-packed : packed_words f.plan.trie.built f.plan.dense_depth (alphabet_len f.plan.classes) ≤ GREATEST

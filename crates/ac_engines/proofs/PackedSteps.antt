@@ -1,5 +1,5 @@
 -- Where a state of a contiguous NFA leads, by the node that it stands for.
-use Rattle.std.proofs.Common.{◌≡◌, ◌≢◌, ℕ, ◌+◌, ◌<◌, Bool, true, false, List, [], ◌∷◌, ◌++◌, ◌⊎◌, inl, inr, refl, arith, Some, None, if◌then◌else◌, slice_index_or, rules}
+use Rattle.std.proofs.Common.{◌≡◌, ◌≢◌, ℕ, ◌+◌, ◌<◌, Bool, true, false, List, [], ◌∷◌, ◌++◌, ◌⊎◌, inl, inr, refl, ap, sym, ◌∙◌, arith, Some, None, if◌then◌else◌, slice_index_or}
 use Rattle.std.proofs.lemmas.Bool.{cond-true, cond-false}
 use Rattle.std.proofs.lemmas.List.Elements.{All-map, Contains-get_or}
 use Rattle.std.proofs.lemmas.Grind.{common_steps}
@@ -86,7 +86,7 @@ module _ (p : ContiguousView) (at : Places) (h : IsContiguous p at) where
   -- no string's number is FAIL
   after-fail : (anchored : Anchored) (w : List ℕ) (c : ℕ)
       → IsNode p.built.kind (plain_of p.built) (Some (w ++ c ∷ [])) → at.place (w ++ c ∷ []) ≢ FAIL
-  after-fail anchored w c node e = grind (arith, common_steps, longer-number anchored w c)
+  after-fail anchored w c node e = absurd (omega (arith, h.after anchored (w ++ c ∷ []) node, longer-number anchored w c))
 
   -- so each transition leads to a state
   own-named : (w : List ℕ) → AreNamed (edges_of p at w)
@@ -107,7 +107,17 @@ module _ (p : ContiguousView) (at : Places) (h : IsContiguous p at) where
 
   reads-on : (anchored : Anchored) (w : List ℕ) (b : ℕ) → b < 256 → leads_on p.built (Some w) b ≡ true
       → ReadsStep anchored (Some w) b
-  reads-on anchored w b byte leads = search (rules, after-fail, one-look, step-longer, target-longer)
+  reads-on anchored w b byte leads =
+      let c = plain_byte p.built.ignores_case b in
+      let target = target-longer anchored w b byte leads in
+      record {
+        leads = λ some. record {
+          number = target ∙ longer-number anchored w c ∙ ap (number_at at anchored) (sym (step-longer anchored w b leads));
+          looks = one-look anchored w b leads;
+        };
+        ends = λ fail yes. absurd (after-fail anchored w c leads (sym target ∙ fail));
+        goes = λ fail no. absurd (after-fail anchored w c leads (sym target ∙ fail));
+      }
 
   -- where the start goes on by a byte that doesn't lead on, it isn't FAIL
   home-not-fail : (v : Node) → (v ≡ None) ⊎ (v ≡ Some []) → number_at at No v ≢ FAIL
@@ -124,28 +134,43 @@ module _ (p : ContiguousView) (at : Places) (h : IsContiguous p at) where
   home-is false = inr refl
 
   reads-start : (b : ℕ) → b < 256 → leads_on p.built (Some []) b ≡ false → ReadsStep No (Some []) b
-  reads-start b byte none = search (rules, home-is, home-not-fail, no-target, own-none, step-fallback)
+  reads-start b byte none =
+      let target = no-target p at h.apart (number_at at No (onward (Some []))) [] b byte none in
+      let step_is = step-fallback p.built.kind (plain_of p.built) (Some []) (plain_byte p.built.ignores_case b)
+      (own-none [] b none) refl in
+      record {
+        leads = λ some. record { number = target ∙ ap (number_at at No) (sym step_is); looks = refl };
+        ends = λ fail yes. absurd cc;
+        goes = λ fail no. absurd (home-not-fail (onward (Some [])) (home-is _) (sym target ∙ fail));
+      }
 
   reads-anchored : (w : List ℕ) (b : ℕ) → target_of p at Yes (Some w) b ≡ FAIL → leads_on p.built (Some w) b ≡ false
       → ReadsStep Yes (Some w) b
-  reads-anchored w b target none = grind (arith, common_steps)
+  reads-anchored w b target none = record {
+    leads = λ some. absurd (some target);
+    ends = λ fail yes. own-none w b none;
+    goes = λ fail no. absurd cc;
+  }
 
   reads-inner : (x : ℕ) (w : List ℕ) (b : ℕ) → b < 256 → leads_on p.built (Some (x ∷ w)) b ≡ false
       → ReadsStep No (Some (x ∷ w)) b
   reads-inner x w b byte none =
-      search (
-        rules,
-        depth-failure,
-        failure-node,
-        looks-on,
-        no-target,
-        own-none,
-        step-on,
-        own-none (x ∷ w) b none,
-        failure-node p.built.kind (plain_of p.built) x w,
-        step-on p.built.kind (plain_of p.built) (Some (x ∷ w)) (plain_byte p.built.ignores_case b) (own-none (x ∷ w) b none) (omega arith),
-        looks-on p.built.kind (plain_of p.built) (Some (x ∷ w)) (plain_byte p.built.ignores_case b) (own-none (x ∷ w) b none) (omega arith),
-      )
+      let off = own-none (x ∷ w) b none in
+      let target = no-target p at h.apart FAIL (x ∷ w) b byte none in
+      let kind = p.built.kind in
+      let patterns = plain_of p.built in
+      let c = plain_byte p.built.ignores_case b in
+      record {
+        leads = λ some. absurd (some target);
+        ends = λ fail yes. absurd cc;
+        goes = λ fail no. record {
+          failure = refl;
+          node = failure-node kind patterns x w;
+          steps = step-on kind patterns (Some (x ∷ w)) c off (omega arith);
+          looks = looks-on kind patterns (Some (x ∷ w)) c off (omega arith);
+          shorter = omega (arith, depth-failure kind patterns x w);
+        };
+      }
 
   -- what is read at any state
   pub reads : (anchored : Anchored) (v : Node) (b : ℕ) → b < 256 → ReadsStep anchored v b

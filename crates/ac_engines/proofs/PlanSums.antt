@@ -1,5 +1,5 @@
 -- The places of a plan's states, by the sums of their sizes.
-use Rattle.std.proofs.Common.{◌≡◌, ℕ, zero, suc, ◌+◌, ◌*◌, ◌<◌, ◌≤◌, Bool, true, false, cond, List, [], ◌∷◌, ◌++◌, length, None, Some, refl, arith, slice_get, slice_index_or, rules}
+use Rattle.std.proofs.Common.{◌≡◌, ℕ, zero, suc, ◌+◌, ◌*◌, ◌<◌, ◌≤◌, Bool, true, false, cond, List, [], ◌∷◌, ◌++◌, length, None, Some, refl, ap, arith, slice_get, slice_index_or, rules}
 use Rattle.std.proofs.lemmas.Bool.{cond-false, le-ltb}
 use Rattle.std.proofs.lemmas.Option.{slice_get-get_or}
 use Rattle.std.proofs.lemmas.Grind.{common_steps}
@@ -67,6 +67,11 @@ module _ (q : PackPlan) (nodes : List Node) where
         let all = total-inner q.trie nodes may.are_nodes (λ s. size_at q nodes true s + size_at q nodes false s)
         (λ w. size_of q nodes (Some w)) (λ s w after named. size-both s (Some w) (omega (arith, after)) named) in
         omega (arith, both, all, first-sizes)
+
+    -- so where all are placed, the next one would follow them
+    pub all-placed : (s back : ℕ) → s ≡ length nodes → back ≡ front_end q nodes + before q nodes false s
+        → back ≡ packed_words q.trie.built q.dense_depth (alphabet_len q.classes)
+    all-placed s back end follows = omega (arith, follows, ap (before q nodes false) end, sizes-whole)
 
     -- numbers below that of the states stand for nodes
     pub named-below : (p : PackPlan) (n s : ℕ) → p ≡ q → n ≡ state_count p.trie.built.kind (plain_of p.trie.built)

@@ -39,7 +39,8 @@ module _ (f : Filling) (nodes : List Node) (size s : ℕ) (w : List ℕ) (h : Ha
 
       last : (t : ℕ) (u : Node) → t ≡ s → slice_get nodes t ≡ Some u → (anchored : Anchored)
           → IsFilled p anchored (Some w) new → IsFilled p anchored u new
-      last t u same named anchored filled = search rules
+      last t u same named anchored filled =
+          let node : u ≡ Some w = let there_is = h.named in cc in rw node filled
 
       kept : (t : ℕ) (u : Node) → t < s → t ≢ 3 → slice_get nodes t ≡ Some u → (anchored : Anchored)
           → IsFilled p anchored u old → IsFilled p anchored u new
@@ -61,7 +62,17 @@ module _ (f : Filling) (nodes : List Node) (size s : ℕ) (w : List ℕ) (h : Ha
 
       blank-still : (t k : ℕ) → s + 1 ≤ t → t ≢ 3 → t < length nodes → slice_index_or f.numbers t 0 ≤ k
           → k < slice_index_or f.numbers t 0 + width p → slice_index_or new k 0 ≡ 0
-      blank-still t k later other within from to = search (rules, cases_lt, rows-apart)
+      blank-still t k later other within from to =
+          let inner : 4 ≤ t = elim h.place [
+            | inl start ↦ omega arith
+            | inr after ↦ omega arith
+          ] in
+          let numbered : t < length f.numbers = rw h.may.laid.count within in
+          beside k (elim (rows-apart f nodes size h.may s t h.place inner (omega arith) numbered) [
+            | inl before ↦ inr (omega arith)
+            | inr after ↦ inl (omega arith)
+          ])
+          ∙ up.blank t k (omega arith) other within from to
 
   -- the row of a state may be filled once those before it are
   pub may-row : (anchored : Anchored) (old : List ℕ) → start_refusal f.start_kind anchored ≡ None

@@ -1,11 +1,37 @@
-use Rattle.std.proofs.Common.{◌≡◌, ◌≤◌, ◌∷◌, length, slice_index_or, ap, sym, subst, arith, inl, inr, ◌∙◌, Some, refl, slice_get}
+use Rattle.std.proofs.Common.{◌≡◌, ◌∷◌, length, slice_index_or, ap, sym, subst, arith, inl, inr, ◌∙◌, Some, refl, slice_get}
 use Rattle.std.proofs.lemmas.Option.{slice_get_within}
 use Rattle.ac_automaton.specs.Util.{alphabet_len, failure}
 use Rattle.ac_automaton.specs.Prelude.{AreNodes, plain_of, Trie}
 use Rattle.ac_engines.specs.Dfa.Filling.{Filling}
-use Rattle.ac_engines.proofs.OneRow.{inner-filled}
+use Rattle.ac_engines.proofs.OneRow.{inner-filled, inner-row}
 use Rattle.ac_engines.proofs.StateRows.{classes-apart, classes-within, failed-to, row-of}
 use Rattle.ac_engines.proofs.dfa.fill.Filler.fill_inner.Goals as goal
+
+-- the state stands after the starts
+pub fail-requires : goal.fail-requires
+fail-requires g c =
+    let m = c.requires.3 in
+    record {
+      inner = inner-row c.args.self.now c.requires.0 (length c.args.table.now) c.args.sid c.requires.1 m.row c.requires.2;
+      numbered = rw (ap (λ (f : Filling). f.trie) c.self.view_is, sym m.row.may.are_nodes.numbered.count)
+          (slice_get_within c.requires.0 c.args.sid (Some c.requires.1) m.row.named);
+    }
+
+-- it has a row, and so has its failure target
+pub first_row-from-requires : goal.first_row-from-requires
+first_row-from-requires g c =
+    let m = c.requires.3 in
+    let within = slice_get_within c.requires.0 c.args.sid (Some c.requires.1) m.row.named in
+    record {
+      numbered = rw (ap (λ (f : Filling). f.numbers) c.self.view_is, m.row.may.laid.count)
+          (omega (arith, c.fail.ensures.back, within));
+    }
+
+pub number-requires : goal.number-requires
+number-requires g c = (c.requires.0, length c.args.table.now, c.requires.1, c.requires.3.row)
+
+pub set_own-requires : goal.set_own-requires
+set_own-requires g c = (c.requires.0, c.requires.1, rw c.copy_row.ensures.same_length c.requires.3.row)
 
 -- both rows lie in the table, and apart
 pub copy_row-requires : goal.copy_row-requires
@@ -16,11 +42,7 @@ copy_row-requires g c =
     let size = length c.args.table.now in
     let may = m.row.may in
     let sid = c.args.sid in
-    let inner : 4 ≤ sid = elim m.row.place [
-      | inl start ↦ absurd (c.requires.2
-          (let same = sym m.row.named ∙ ap (slice_get nodes) start ∙ may.are_nodes.start in cc))
-      | inr inner ↦ inner
-    ] in
+    let inner = inner-row f nodes size sid c.requires.1 m.row c.requires.2 in
     let count = may.laid.count in
     let within = slice_get_within nodes sid (Some c.requires.1) m.row.named in
     let back = c.fail.ensures.back in

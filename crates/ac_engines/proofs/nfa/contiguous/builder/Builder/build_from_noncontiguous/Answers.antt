@@ -5,6 +5,19 @@ use Rattle.ac_engines.specs.Prelude.{ContiguousView, IsContiguous, PackPlan, pla
 use Rattle.ac_engines.proofs.PackedBuilding.{packed-same, read-number, starts-placed}
 use Rattle.ac_engines.proofs.nfa.contiguous.builder.Builder.build_from_noncontiguous.Goals as goal
 
+-- the plan has nodes, and the states with matches end at this place
+pub new-plan-requires-clause-apart : goal.new-plan-requires-clause-apart
+new-plan-requires-clause-apart g c = c.classes_for-classes.ensures.apart
+
+pub numbers-requires-clause-may : goal.numbers-requires-clause-may
+numbers-requires-clause-may g c = c.new-plan.ensures.may
+
+pub numbers-requires-clause-front : goal.numbers-requires-clause-front
+numbers-requires-clause-front g c = c.front_end-match_end.ensures
+
+pub all_words-requires : goal.all_words-requires
+all_words-requires g c = record { may = c.new-plan.ensures.may }
+
 -- each state has a place
 pub pack-requires-clause-ready : goal.pack-requires-clause-ready
 pack-requires-clause-ready g c =

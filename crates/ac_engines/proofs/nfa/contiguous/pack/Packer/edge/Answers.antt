@@ -1,9 +1,20 @@
 use Rattle.std.proofs.Common.{ap, sym, subst, ◌∙◌, Some}
 use Rattle.ac_util.specs.Classes.{class_at}
-use Rattle.ac_automaton.specs.Prelude.{AreNodes, IsOwn, Trie}
+use Rattle.ac_automaton.specs.Prelude.{AreNodes, HasOwn, IsOwn, Trie}
 use Rattle.ac_engines.specs.Prelude.{Packer, PackPlan}
 use Rattle.ac_engines.proofs.PackedNodes.{edge-at, own-numbered, string-of}
+use Rattle.ac_engines.proofs.PlanStates.{words-numbered}
 use Rattle.ac_engines.proofs.nfa.contiguous.pack.Packer.edge.Goals as goal
+
+-- the state has this transition in the trie
+pub own-byte-requires-clause-numbered : goal.own-byte-requires-clause-numbered
+own-byte-requires-clause-numbered g c =
+    words-numbered _ _ _ (c.plan.view_is ∙ ap (λ (f : Packer). f.plan) c.self.view_is) c.requires.state.words
+
+pub own-byte-requires-clause-within : goal.own-byte-requires-clause-within
+own-byte-requires-clause-within g c =
+    let trie = ap (λ (p : PackPlan). p.trie) c.plan.view_is ∙ ap (λ (f : Packer). f.plan.trie) c.self.view_is in
+    subst (λ (t : Trie). HasOwn t c.args.sid c.args.index) (sym trie) c.requires.within
 
 -- an own transition, as the reader says it
 pub number-requires : goal.number-requires

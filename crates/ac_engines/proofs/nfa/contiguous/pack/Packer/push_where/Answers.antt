@@ -1,8 +1,7 @@
 use Rattle.std.proofs.Common.{◌≡◌, ◌++◌, ap, sym, subst, ◌∙◌, arith, length, Some, slice_get}
 use Rattle.std.specs.Cmp.{booleans_Decides}
 use Rattle.std.proofs.lemmas.Bool.{false≢true}
-use Rattle.std.proofs.lemmas.Grind.{common_steps}
-use Rattle.ac_engines.specs.Prelude.{has_matches, MayPack, Packer, PackPlan, state_words}
+use Rattle.ac_engines.specs.Prelude.{has_matches, HasWords, MayPack, Packer, PackPlan, state_words}
 use Rattle.ac_engines.proofs.PlanSums.{has-words, named-below, plan-states}
 use Rattle.ac_engines.proofs.Pushing.{HasPushedUpTo, passed-over, pushed-all, pushed-next, pushed-none}
 use Rattle.ac_engines.proofs.nfa.contiguous.pack.Packer.push_where.Goals.{then-is_match-front+in_ok-push, else-is_match-front}
@@ -14,7 +13,14 @@ loop-state-init g c = λ nodes ready. pushed-none c.args.self.now nodes c.args.f
 
 -- each state has words
 pub is_match-requires : goal.is_match-requires
-is_match-requires g c = grind (arith, common_steps, has-words)
+is_match-requires g c =
+    let (nodes, ready) = c.requires.ready in
+    let plan = ap (λ (f : Packer). f.plan) c.self.view_is in
+    record {
+      state = subst (λ (q : PackPlan). HasWords q c.must-sid.result) (sym plan)
+          (has-words c.args.self.now.plan nodes ready.may _ _ c.loop-state.state c.must-sid.result (c.plan.view_is ∙ plan)
+          c.states_len-state-end.ensures.value c.loop-state.auto.state c.loop-state-test.true c.must-sid.ensures.value);
+    }
 
 -- and a place
 pub push-requires : goal.push-requires

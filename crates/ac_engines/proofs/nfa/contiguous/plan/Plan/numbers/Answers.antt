@@ -2,7 +2,7 @@ use Rattle.std.proofs.Common.{◌≡◌, ◌+◌, ◌≤◌, ℕ, Bool, List, So
 use Rattle.ac_util.specs.Node.{Node}
 use Rattle.ac_automaton.specs.Util.{BuildError}
 use Rattle.ac_engines.specs.Contiguous.Plans.{IsMemoryUnless, MayPack, all_words, size_of}
-use Rattle.ac_engines.proofs.PlanSums.{TakesSize, back-within, before, before-starts, front-within, has-words, named-below, placed-more, places-first, plan-states, sizes-whole, takes}
+use Rattle.ac_engines.proofs.PlanSums.{TakesSize, all-placed, back-within, before-starts, front-within, has-words, named-below, placed-more, places-first, plan-states, takes}
 use Rattle.ac_engines.proofs.nfa.contiguous.plan.Plan.numbers.Goals.{then-is_match+in_ok-push_number, else-is_match+in_ok-push_number-2}
 use Rattle.ac_engines.proofs.nfa.contiguous.plan.Plan.numbers.Goals as goal
 
@@ -17,32 +17,48 @@ loop-state-init g c = λ nodes may. record {
 
 -- each state has words
 pub words-words-requires : goal.words-words-requires
-words-words-requires g c = search (rules, has-words)
+words-words-requires g c =
+    let (nodes, may) = c.requires.may in
+    record {
+      state = has-words c.args.self.now nodes may _ _ c.loop-state.state c.must-sid.result c.self.view_is
+          c.states_len-state-end.ensures.value c.loop-state.auto.state c.loop-state-test.true c.must-sid.ensures.value;
+    }
 
 -- the state is the same
 pub is_match-requires : goal.is_match-requires
-is_match-requires g c = search (rules, has-words)
+is_match-requires g c =
+    let (nodes, may) = c.requires.may in
+    record {
+      state = has-words c.args.self.now nodes may _ _ c.loop-state.state c.must-sid.result c.self.view_is
+          c.states_len-state-end.ensures.value c.loop-state.auto.state c.loop-state-test.true c.must-sid.ensures.value;
+    }
 
 -- a number that is too great lies within the words of the plan
-refused-more : (n m : ℕ) (e : BuildError) → n ≤ m → IsMemoryUnless n e → IsMemoryUnless m e
-refused-more n m e within (inl memory) = inl memory
-refused-more n m e within (inr great) = inr (omega arith)
+refused-more : (n m k : ℕ) (e : BuildError) → n ≡ k → k ≤ m → IsMemoryUnless n e → IsMemoryUnless m e
+refused-more n m k e is within (inl memory) = inl memory
+refused-more n m k e is within (inr great) = inr (omega arith)
 
 pub returns-in_err-push_number-clause-refused : goal.returns-in_err-push_number-clause-refused
 returns-in_err-push_number-clause-refused g c =
     let (nodes, may) = c.requires.may in
-    let within = front-within c.args.self.now nodes may _ _ _ c.self.view_is c.states_len-state-end.ensures.value c.loop-state-test.true in
-    let more = refused-more c.loop-state.front (all_words c.args.self.now) c.in_err-push_number.field-0.0
-    (omega (arith, (c.loop-state.invariant nodes may).front_is, within)) c.in_err-push_number.ensures.refused in
-    search (rules, more)
+    search (
+      rules,
+      refused-more c.loop-state.front (all_words c.args.self.now) _ c.in_err-push_number.field-0.0
+          (c.loop-state.invariant nodes may).front_is
+          (front-within c.args.self.now nodes may _ _ _ c.self.view_is c.states_len-state-end.ensures.value c.loop-state-test.true)
+          c.in_err-push_number.ensures.refused,
+    )
 
 pub returns-in_err-push_number-2-clause-refused : goal.returns-in_err-push_number-2-clause-refused
 returns-in_err-push_number-2-clause-refused g c =
     let (nodes, may) = c.requires.may in
-    let within = back-within c.args.self.now nodes may _ _ _ c.self.view_is c.states_len-state-end.ensures.value c.loop-state-test.true in
-    let more = refused-more c.loop-state.back (all_words c.args.self.now) c.in_err-push_number-2.field-0.0
-    (omega (arith, (c.loop-state.invariant nodes may).back_is, within)) c.in_err-push_number-2.ensures.refused in
-    search (rules, more)
+    search (
+      rules,
+      refused-more c.loop-state.back (all_words c.args.self.now) _ c.in_err-push_number-2.field-0.0
+          (c.loop-state.invariant nodes may).back_is
+          (back-within c.args.self.now nodes may _ _ _ c.self.view_is c.states_len-state-end.ensures.value c.loop-state-test.true)
+          c.in_err-push_number-2.ensures.refused,
+    )
 
 -- one state more has its place, in front or among the others
 pub loop-state-preserved : goal.loop-state-preserved
@@ -92,5 +108,4 @@ returns-clause-all g c =
     let states = plan-states _ q nodes _ may c.self.view_is c.states_len-state-end.ensures.value in
     let all : c.loop-state.state ≡ length nodes =
     omega (arith, states, c.loop-state-test.false, c.loop-state.auto.state-end, may.are_nodes.numbered.count) in
-    let back = ap (λ n. before q nodes false n) all in
-    omega (arith, (c.loop-state.invariant nodes may).back_is, back, sizes-whole q nodes may)
+    all-placed q nodes may c.loop-state.state c.loop-state.back all (c.loop-state.invariant nodes may).back_is
