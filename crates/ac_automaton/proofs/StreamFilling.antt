@@ -113,6 +113,16 @@ module _ (stands : ℕ → Node → Type 0) (i : Inside) (v : Streaming) (inv : 
     back-open : v.kept ≤ max i.begun (v.front + i.at - i.reserve)
     back-open = elim inv.back [ inl back ↦ back | inr ended ↦ absurd (goes-on ended.0) ]
 
+    -- and no bytes came: the end was met, or there was a failure
+    module _ (settled : HasGivenSettled v v) where
+      pub streams-ended : IsStreaming stands (record i { buffer = buffer })
+          (record v { phase = Ended; buffer = length buffer })
+      streams-ended = search rules
+
+      pub streams-failed : IsStreaming stands (record i { buffer = buffer })
+          (record v { phase = Failed; buffer = length buffer })
+      streams-failed = search rules
+
     -- and some of that is bytes more
     module _ (n : ℕ) (more : List ℕ) (reads : more ≡ take n (drop i.filled buffer)) (room : n ≤ length (drop i.filled buffer))
         (small : v.front + i.filled + n ≤ usize_max) (bytes : List ℕ) (added : bytes ≡ v.bytes ++ more) where
@@ -162,6 +172,11 @@ module _ (stands : ℕ → Node → Type 0) (i : Inside) (v : Streaming) (inv : 
       pub streams-filled : IsStreaming stands (record i { buffer = buffer; filled = i.filled + n })
           (record v { bytes = bytes; buffer = length buffer })
       streams-filled = search (rules, filled)
+
+-- where all matches that are settled were given, they are given once there is room
+pub settled-as : (old mid inside : Streaming) → inside ≡ mid → mid ≡ record old { front = mid.front }
+    → HasGivenSettled old old → HasGivenSettled inside inside
+settled-as old mid inside is same settled = grind (arith, common_steps)
 
 -- what is seen after a read, by what was seen before it and once there was room
 pub seen-as : (old mid inside : Streaming) → inside ≡ mid → mid ≡ record old { front = mid.front }

@@ -63,8 +63,7 @@ impl<'p, A: Allocator + Clone> Growth<'p, A> {
         let alloc = patterns.allocator();
         let sorted = SortedPatterns::of(alloc.clone()?, patterns, kind, ignores_case)?;
         let mut states = Vec::new(alloc.clone()?);
-        states.push(State::dead())?;
-        states.push(State::dead())?;
+        states.resize(START, State::dead())?;
         Ok(Growth {
             sorted,
             kind,
@@ -85,8 +84,7 @@ impl<'p, A: Allocator + Clone> Growth<'p, A> {
     {
         let start = self.start();
         let start = self.branch(start)?;
-        self.states.push(start)?;
-        self.states.push(start)?;
+        self.states.resize(FIRST_INNER, start)?;
         let mut at = 0;
         while at < self.queue.len() {
             let queued = self.queue[at];

@@ -2,14 +2,30 @@ use Rattle.std.proofs.Common.{◌≡◌, ◌∷◌, ◌∙◌, ◌++◌, ℕ, tr
 use Rattle.std.specs.Str.{IsCharBoundary}
 use Rattle.std.proofs.lemmas.Str.{IsCharBoundary-start}
 use Rattle.std.proofs.lemmas.Grind.{common_steps}
-use Rattle.ac_automaton.specs.Util.{is_whole, whole_characters}
+use Rattle.ac_automaton.specs.Util.{input_of, is_whole, whole_characters}
 use Rattle.ac_util.proofs.Exchanges.{AreInOrder, exchanged-in_order, in_order-earlier, is_whole-ends, whole_characters-skip, whole_characters-take}
-use Rattle.ac_automaton.proofs.Exchanged.{turned}
+use Rattle.ac_automaton.proofs.Exchanged.{answers-by_memory, ended, turned}
+use Rattle.ac_automaton.proofs.Exchanging.{unrefused}
 use Rattle.ac_automaton.proofs.automaton.replace.try_replace_all.Goals as goal
 
 -- all matches are left, and nothing was written
 pub loop-found-init : goal.loop-found-init
 loop-found-init g c = search (rules, IsCharBoundary-start, exchanged-in_order)
+
+-- the gap ends where the match begins, and both are at boundaries
+pub range-requires-clause-start_le_end : goal.range-requires-clause-start_le_end
+range-requires-clause-start_le_end g c =
+    let order = subst (AreInOrder (length c.args.text.now) (length c.args.texts.now) c.loop-found.place)
+    c.in-Some.ensures.steps.gives c.loop-found.invariant.3 in
+    let low = order.0 in omega arith
+
+pub range-requires-clause-start_boundary : goal.range-requires-clause-start_boundary
+range-requires-clause-start_boundary g c = λ _. c.loop-found.invariant.2
+
+pub range-requires-clause-end_boundary : goal.range-requires-clause-end_boundary
+range-requires-clause-end_boundary g c =
+    subst (IsCharBoundary c.args.text.now) (sym c.start.ensures) (is_whole-ends c.args.text.now c.in-Some.found
+    (sym c.cuts_no_character.ensures ∙ c.if-cuts_no_character.true)).0
 
 -- its pattern has a text
 pub bounds-texts-as_usize : goal.bounds-texts-as_usize
@@ -55,3 +71,42 @@ loop-found-preserved g c =
       in_order-earlier _ _ c.loop-found.place c.in-Some.found.end c.next.new.self.rest (omega (arith, order.0, order.1)) order.4,
       grind (arith, common_steps, skip),
     )
+
+-- memory was refused
+pub returns-in_err-replaced : goal.returns-in_err-replaced
+returns-in_err-replaced g c =
+    answers-by_memory _ _ c.from_residual-in_err-replaced.result
+    (unrefused (g.A.Automaton.seen c.args.automaton.now).built c.args.text.now (input_of c.of_text.result) c.of_text.ensures.value
+    c.in_ok-matches.ensures.0)
+    c.from_residual-in_err-replaced.ensures.1
+
+pub returns-in_err-push_str : goal.returns-in_err-push_str
+returns-in_err-push_str g c =
+    answers-by_memory _ _ c.from_residual-in_err-push_str.result
+    (unrefused (g.A.Automaton.seen c.args.automaton.now).built c.args.text.now (input_of c.of_text.result) c.of_text.ensures.value
+    c.in_ok-matches.ensures.0)
+    c.from_residual-in_err-push_str.ensures.1
+
+pub returns-in_err-push_str-2 : goal.returns-in_err-push_str-2
+returns-in_err-push_str-2 g c =
+    answers-by_memory _ _ c.from_residual-in_err-push_str-2.result
+    (unrefused (g.A.Automaton.seen c.args.automaton.now).built c.args.text.now (input_of c.of_text.result) c.of_text.ensures.value
+    c.in_ok-matches.ensures.0)
+    c.from_residual-in_err-push_str-2.ensures.1
+
+pub returns-in_err-push_str-3 : goal.returns-in_err-push_str-3
+returns-in_err-push_str-3 g c =
+    answers-by_memory _ _ c.from_residual-in_err-push_str-3.result
+    (unrefused (g.A.Automaton.seen c.args.automaton.now).built c.args.text.now (input_of c.of_text.result) c.of_text.ensures.value
+    c.in_ok-matches.ensures.0)
+    c.from_residual-in_err-push_str-3.ensures.1
+
+-- what follows the last match was written
+pub returns : goal.returns
+returns g c = (
+  unrefused (g.A.Automaton.seen c.args.automaton.now).built c.args.text.now (input_of c.of_text.result) c.of_text.ensures.value
+      c.in_ok-matches.ensures.0,
+  ended c.args.text.now c.args.texts.now c.loop-found.place _ _ _ _ _
+      (ap (whole_characters c.args.text.now) c.in-None.ensures.steps.gives.0) c.loop-found.invariant.4
+      c.in_ok-push_str-3.ensures.bytes c.range_from.ensures.value,
+)

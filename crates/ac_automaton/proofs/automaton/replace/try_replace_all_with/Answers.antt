@@ -12,6 +12,40 @@ use Rattle.ac_automaton.proofs.automaton.replace.try_replace_all_with.Goals.{Aft
 pub loop-found-init : goal.loop-found-init
 loop-found-init g c = search (rules, IsCharBoundary-start, exchanged-in_order, leads-begin)
 
+-- the gap ends where the match begins, and both are at boundaries
+pub range-requires-clause-start_le_end : goal.range-requires-clause-start_le_end
+range-requires-clause-start_le_end g c =
+    let order = subst (λ (ms : List Occurrence). AreInOrder (length c.args.text.now)
+    (length (g.A.Automaton.seen c.args.automaton.now).built.patterns) c.loop-found.place ms)
+    c.in-Some.ensures.steps.gives c.loop-found.invariant.4 in
+    let low = order.0 in omega arith
+
+pub range-requires-clause-start_boundary : goal.range-requires-clause-start_boundary
+range-requires-clause-start_boundary g c = λ _. c.loop-found.invariant.3
+
+pub range-requires-clause-end_boundary : goal.range-requires-clause-end_boundary
+range-requires-clause-end_boundary g c =
+    subst (IsCharBoundary c.args.text.now) (sym c.start.ensures) (is_whole-ends c.args.text.now c.in-Some.found
+    (sym c.cuts_no_character.ensures ∙ c.if-cuts_no_character.true)).0
+
+-- and so is its end
+pub range-requires-then-cuts_no_character-clause-start_le_end : goal.range-requires-then-cuts_no_character-clause-start_le_end
+range-requires-then-cuts_no_character-clause-start_le_end g c =
+    let order = subst (λ (ms : List Occurrence). AreInOrder (length c.args.text.now)
+    (length (g.A.Automaton.seen c.args.automaton.now).built.patterns) c.loop-found.place ms)
+    c.in-Some.ensures.steps.gives c.loop-found.invariant.4 in
+    let ordered = order.1 in omega arith
+
+pub range-requires-then-cuts_no_character-clause-start_boundary : goal.range-requires-then-cuts_no_character-clause-start_boundary
+range-requires-then-cuts_no_character-clause-start_boundary g c = λ _.
+    subst (IsCharBoundary c.args.text.now) (sym c.start-then-cuts_no_character.ensures) (is_whole-ends c.args.text.now c.in-Some.found
+    (sym c.cuts_no_character.ensures ∙ c.if-cuts_no_character.true)).0
+
+pub range-requires-then-cuts_no_character-clause-end_boundary : goal.range-requires-then-cuts_no_character-clause-end_boundary
+range-requires-then-cuts_no_character-clause-end_boundary g c =
+    subst (IsCharBoundary c.args.text.now) (sym c.end-place.ensures) (is_whole-ends c.args.text.now c.in-Some.found
+    (sym c.cuts_no_character.ensures ∙ c.if-cuts_no_character.true)).1
+
 -- the gap was refused
 pub returns-in_err-push_str : goal.returns-in_err-push_str
 returns-in_err-push_str g c =

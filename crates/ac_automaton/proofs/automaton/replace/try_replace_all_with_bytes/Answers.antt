@@ -71,3 +71,24 @@ returns g c = (
       (c.in_ok-extend_from_slice-2.ensures.items
       ∙ ap (λ (rest : List ℕ). c.match-next.destination.items ++ rest) (slice_to_end c.args.haystack.now c.match-next.place)),
 )
+
+pub slice_bounds-exchange-count : goal.slice_bounds-exchange-count
+slice_bounds-exchange-count g c = grind (arith, common_steps)
+
+pub slice_bounds-exchange-end : goal.slice_bounds-exchange-end
+slice_bounds-exchange-end g c = grind (arith, common_steps)
+
+pub slice_bounds-exchange-start : goal.slice_bounds-exchange-start
+slice_bounds-exchange-start g c = grind (arith, common_steps)
+
+pub slice_bounds-extend_from_slice-count : goal.slice_bounds-extend_from_slice-count
+slice_bounds-extend_from_slice-count g c = grind (arith, common_steps)
+
+pub slice_bounds-extend_from_slice-end : goal.slice_bounds-extend_from_slice-end
+slice_bounds-extend_from_slice-end g c = grind (arith, common_steps)
+
+pub slice_bounds-extend_from_slice-start : goal.slice_bounds-extend_from_slice-start
+slice_bounds-extend_from_slice-start g c = grind (arith, common_steps)
+
+pub slice_bounds-extend_from_slice-count-2 : goal.slice_bounds-extend_from_slice-count-2
+slice_bounds-extend_from_slice-count-2 g c = grind (arith, common_steps)

@@ -1,4 +1,5 @@
-use Rattle.std.proofs.Common.{◌≡◌, ◌∙◌, ◌+◌, ℕ, List, Some, None, Ok, Err, take, sym, ap, subst, slice_range, rules}
+use Rattle.std.proofs.Common.{◌≡◌, ◌∙◌, ◌+◌, ℕ, List, Some, None, Ok, Err, take, sym, ap, subst, slice_range, arith, rules}
+use Rattle.std.proofs.lemmas.Grind.{common_steps}
 use Rattle.ac_automaton.specs.Prelude.{GivesMatch, IsSettledIn, matches_so_far, PassesPiece, Steps, Streaming}
 use Rattle.ac_automaton.proofs.Places.{refused-by}
 use Rattle.ac_automaton.proofs.StreamExchanging.{exchange-fails, gap-fails, last-fails, last-flushed, replaced-match}
@@ -133,3 +134,21 @@ returns-in_err-exchange-clause-exchanged g c =
           (record { closure = c.exchange.new.self; destination = c.exchange.new.writer })) (slice g d)
           c.in_err-exchange.ensures.calls),
     ))
+
+pub bytes-requires-in-loop-found-clause-in_buffer : goal.bytes-requires-in-loop-found-clause-in_buffer
+bytes-requires-in-loop-found-clause-in_buffer g c = grind (arith, common_steps)
+
+pub bytes-requires-in-loop-found-clause-within : goal.bytes-requires-in-loop-found-clause-within
+bytes-requires-in-loop-found-clause-within g c = grind (arith, common_steps)
+
+pub bytes-requires-in-loop-found-2-clause-in_buffer : goal.bytes-requires-in-loop-found-2-clause-in_buffer
+bytes-requires-in-loop-found-2-clause-in_buffer g c = grind (arith, common_steps)
+
+pub bytes-requires-in-loop-found-2-clause-within : goal.bytes-requires-in-loop-found-2-clause-within
+bytes-requires-in-loop-found-2-clause-within g c = grind (arith, common_steps)
+
+pub returns-in_err-exchange-clause-accepted : goal.returns-in_err-exchange-clause-accepted
+returns-in_err-exchange-clause-accepted g c = grind (arith, common_steps)
+
+pub returns-in_err-pass-2-clause-accepted : goal.returns-in_err-pass-2-clause-accepted
+returns-in_err-pass-2-clause-accepted g c = grind (arith, common_steps)

@@ -1,4 +1,5 @@
-use Rattle.std.proofs.Common.{Bool, subst, MatchBool, rules}
+use Rattle.std.proofs.Common.{Bool, subst, MatchBool, arith, rules}
+use Rattle.std.proofs.lemmas.Grind.{common_steps}
 use Rattle.ac_automaton.specs.Streams.{FillsMore, MeetsEnd}
 use Rattle.ac_automaton.proofs.Places.{match-by, refused-by}
 use Rattle.ac_automaton.proofs.StreamExchanging.{begins, ends-there, fails-at-last, fails-exchanging, fails-reading, fills, goes-on, replaces}
@@ -59,3 +60,9 @@ returns g c =
     (λ done exchanged. replaces g.E.Exchange.passing g.E.Exchange.calls g.R.Source.empty_means_end _ _ _ on exchanged)
     (λ e fails. fails-at-last g.E.Exchange.passing g.E.Exchange.calls g.R.Source.empty_means_end _ _ _ on e _ fails)
     c.exchange_read-2.ensures.exchanged
+
+pub fill-requires-clause-settled : goal.fill-requires-clause-settled
+fill-requires-clause-settled g c = grind (arith, common_steps)
+
+pub loop-finder-smaller : goal.loop-finder-smaller
+loop-finder-smaller g c = grind (arith, common_steps)

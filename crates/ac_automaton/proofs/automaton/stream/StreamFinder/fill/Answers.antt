@@ -1,44 +1,64 @@
 use Rattle.std.proofs.Common.{◌≡◌, ◌∙◌, ◌+◌, ◌-◌, ◌≤◌, ◌≢◌, ◌++◌, ℕ, List, length, length-append, length-drop, take, drop, sym, ap, subst, arith, rules}
 use Rattle.std.proofs.lemmas.List.{length-take-le}
+use Rattle.std.proofs.lemmas.Grind.{common_steps}
 use Rattle.ac_util.proofs.Devices.{not-idle}
 use Rattle.ac_util.specs.Stream.{stream_result}
 use Rattle.ac_automaton.specs.Streams.{Streaming, matches_so_far}
 use Rattle.ac_automaton.proofs.Places.{written-whole}
-use Rattle.ac_automaton.proofs.StreamFilling.{filled-as, given-stays, seen-as, streams-filled}
+use Rattle.ac_automaton.specs.Prelude.{Failed, Open}
+use Rattle.ac_automaton.proofs.StreamFilling.{filled-as, given-stays, seen-as, settled-as, streams-ended, streams-failed, streams-filled}
+use Rattle.ac_automaton.proofs.automaton.stream.StreamFinder.fill.Given.{Over}
+use Rattle.ac_automaton.proofs.automaton.stream.StreamFinder.fill.Goals.{After-read_after}
 use Rattle.ac_automaton.proofs.automaton.stream.StreamFinder.fill.Goals as goal
 
+-- once a read was made
+module _ (g : Over) (c : After-read_after g) where
+  abbrev buffer : List ℕ
+  buffer = take c.self.inside.buffer.len (c.read_after.new.buffer ++ drop (length c.read_after.new.buffer) c.self.inside.buffer.items)
+
+  opens : c.self.inside.phase ≡ Open
+  opens = ap (λ (v : Streaming). v.phase) c.self.view_is ∙ ap (λ (v : Streaming). v.phase) c.make_room.ensures.same ∙ c.requires.goes_on
+
+  long : length c.read_after.new.buffer ≡ c.self.inside.buffer.len
+  long = c.read_after.ensures.long ∙ c.deref_mut.ensures.len
+
+  whole : buffer ≡ c.read_after.new.buffer
+  whole = written-whole c.read_after.new.buffer c.self.inside.buffer.items c.self.inside.buffer.len long
+
+  as_long : length buffer ≡ length c.self.inside.buffer.items
+  as_long = ap length whole ∙ long ∙ c.self.inside.buffer.ok.0
+
+  keeps : take c.self.inside.filled buffer ≡ take c.self.inside.filled c.self.inside.buffer.items
+  keeps = ap (take c.self.inside.filled) whole ∙ c.read_after.ensures.keeps ∙ ap (take c.self.inside.filled) c.deref_mut.ensures.value
+
+-- and the bytes that came were added
 pub invariant_of-self-then-self-n : goal.invariant_of-self-then-self-n
 invariant_of-self-then-self-n g c =
-    let buffer = c.self.inside.buffer in
+    let d = (goal.at.invariant_of-self-then-self-n g c).After-read_after in
     let at = c.self.inside.filled in
     let n = c.in-Ok.n in
-    let long : length c.read_after.new.buffer ≡ buffer.len = c.read_after.ensures.long ∙ c.deref_mut.ensures.len in
-    let whole = written-whole c.read_after.new.buffer buffer.items buffer.len long in
-    let open' = ap (λ (v : Streaming). v.phase) c.self.view_is ∙ ap (λ (v : Streaming). v.phase) c.make_room.ensures.same
-    ∙ c.requires.goes_on in
     let took = c.in-Ok.ensures.reads in
-    streams-filled _ _ _ c.self.invariant open' _ (ap length whole ∙ long ∙ buffer.ok.0)
-    (ap (take at) whole ∙ c.read_after.ensures.keeps ∙ ap (take at) c.deref_mut.ensures.value) n
-    (take n (drop at c.read_after.new.buffer)) (ap (λ (b : List ℕ). take n (drop at b)) (sym whole))
-    (subst (λ (b : List ℕ). n ≤ length (drop at b)) (sym whole) took.within)
+    streams-filled _ _ _ c.self.invariant (opens g d) (buffer g d) (as_long g d) (keeps g d) n
+    (take n (drop at c.read_after.new.buffer)) (ap (λ (b : List ℕ). take n (drop at b)) (sym (whole g d)))
+    (subst (λ (b : List ℕ). n ≤ length (drop at b)) (sym (whole g d)) took.within)
     (let w = took.within in let d = length-drop at c.read_after.new.buffer in omega (arith, c.if-self-n.true)) _
     (c.with-self-inside.ensures
     ∙ ap (λ (w : List ℕ). c.self.inside.history.bytes ++ w)
     (ap (λ (k : ℕ). take k (drop at c.deref.result.now)) (let e : at + n - at ≡ n = omega arith in e)
-    ∙ ap (λ (b : List ℕ). take n (drop at b)) (c.deref.ensures.value ∙ whole)))
+    ∙ ap (λ (b : List ℕ). take n (drop at b)) (c.deref.ensures.value ∙ whole g d)))
 
 pub returns-in-Ok-2 : goal.returns-in-Ok-2
-returns-in-Ok-2 g c = search (rules, length-take-le, not-idle, seen-as, written-whole)
+returns-in-Ok-2 g c =
+    let d = (goal.at.returns-in-Ok-2 g c).After-read_after in
+    record { reads = search (rules, length-take-le, not-idle); same = seen-as c.args.self.now c.make_room.new.self _ c.self.view_is c.make_room.ensures.same _ (as_long g d) Failed }
 
 pub returns-in-Ok : goal.returns-in-Ok
 returns-in-Ok g c =
+    let d = (goal.at.returns-in-Ok g c).After-read_after in
     let took = c.in-Ok.ensures.reads in
-    let buffer = c.self.inside.buffer in
     let at = c.self.inside.filled in
     let n = c.in-Ok.n in
     let into = drop at c.read_after.new.buffer in
-    let long : length c.read_after.new.buffer ≡ buffer.len = c.read_after.ensures.long ∙ c.deref_mut.ensures.len in
-    let whole = written-whole c.read_after.new.buffer buffer.items buffer.len long in
     let more = take n into in
     let size = length-take-le n into took.within in
     let none : length more ≢ 0 = (λ e. absurd (omega (arith, c.in-Ok.n-test))) in
@@ -46,10 +66,8 @@ returns-in-Ok g c =
     c.with-self-inside.ensures
     ∙ ap (λ (w : List ℕ). c.self.inside.history.bytes ++ w)
     (ap (λ (k : ℕ). take k (drop at c.deref.result.now)) (let e : at + n - at ≡ n = omega arith in e)
-    ∙ ap (λ (b : List ℕ). take n (drop at b)) (c.deref.ensures.value ∙ whole)) in
+    ∙ ap (λ (b : List ℕ). take n (drop at b)) (c.deref.ensures.value ∙ whole g d)) in
     let e = c.self.view_is ∙ c.make_room.ensures.same in
-    let open' = ap (λ (v : Streaming). v.phase) c.self.view_is ∙ ap (λ (v : Streaming). v.phase) c.make_room.ensures.same
-    ∙ c.requires.goes_on in
     record {
       more = more;
       some = omega arith;
@@ -60,7 +78,7 @@ returns-in-Ok g c =
             (λ e. absurd (omega (arith, c.in-Ok.n-test))) in omega arith);
       };
       same = filled-as c.args.self.now c.make_room.new.self _ c.self.view_is c.make_room.ensures.same _
-          (ap length whole ∙ long ∙ buffer.ok.0) _ more added;
+          (as_long g d) _ more added;
       small = (let l = ap length added ∙ length-append c.self.inside.history.bytes more in
           let k = c.self.invariant.counted in let w = took.within in
           let d = length-drop at c.read_after.new.buffer in omega (arith, c.if-self-n.true));
@@ -68,6 +86,32 @@ returns-in-Ok g c =
           (sym (ap (λ (v : Streaming). v.given) e))
           ∙ ap (λ (w : List ℕ). take c.self.inside.given.number
           (stream_result (g.A.Automaton.seen c.self.inside.automaton.now).built w)) added
-          ∙ given-stays _ _ _ c.self.invariant more (λ ended. absurd (let no' = sym open' ∙ ended in cc))
+          ∙ given-stays _ _ _ c.self.invariant more (λ ended. absurd (let no' = sym (opens g d) ∙ ended in cc))
           ∙ ap (λ (v : Streaming). take v.given (matches_so_far v)) e;
     }
+
+pub invariant_of-self : goal.invariant_of-self
+invariant_of-self g c =
+    let d = (goal.at.invariant_of-self g c).After-read_after in
+    streams-ended _ _ _ c.self.invariant (opens g d) _ (as_long g d) (keeps g d)
+    (settled-as _ _ _ c.self.view_is c.make_room.ensures.same c.requires.settled)
+
+pub invariant_of-self-in-Ok-2 : goal.invariant_of-self-in-Ok-2
+invariant_of-self-in-Ok-2 g c =
+    let d = (goal.at.invariant_of-self-in-Ok-2 g c).After-read_after in
+    streams-failed _ _ _ c.self.invariant (opens g d) _ (as_long g d) (keeps g d)
+    (settled-as _ _ _ c.self.view_is c.make_room.ensures.same c.requires.settled)
+
+pub invariant_of-self-in-Err : goal.invariant_of-self-in-Err
+invariant_of-self-in-Err g c =
+    let d = (goal.at.invariant_of-self-in-Err g c).After-read_after in
+    streams-failed _ _ _ c.self.invariant (opens g d) _ (as_long g d) (keeps g d)
+    (settled-as _ _ _ c.self.view_is c.make_room.ensures.same c.requires.settled)
+
+pub returns-in-Err : goal.returns-in-Err
+returns-in-Err g c =
+    let d = (goal.at.returns-in-Err g c).After-read_after in
+    record { reads = search rules; same = seen-as c.args.self.now c.make_room.new.self _ c.self.view_is c.make_room.ensures.same _ (as_long g d) Failed }
+
+pub returns-in-Ok-eq0 : goal.returns-in-Ok-eq0
+returns-in-Ok-eq0 g c = grind (arith, common_steps)

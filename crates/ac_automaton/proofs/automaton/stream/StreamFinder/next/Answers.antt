@@ -16,3 +16,15 @@ returns-in-Ended g c = grind (arith, common_steps, gives-last, append-nil (c.arg
 
 pub returns-in-Err : goal.returns-in-Err
 returns-in-Err g c = search (rules, failed-as, fails-on, length-append)
+
+pub loop-found-preserved : goal.loop-found-preserved
+loop-found-preserved g c = grind (arith, common_steps)
+
+pub loop-found-smaller : goal.loop-found-smaller
+loop-found-smaller g c = grind (arith, common_steps)
+
+pub returns-in-Ok-false : goal.returns-in-Ok-false
+returns-in-Ok-false g c = grind (arith, common_steps)
+
+pub returns-in-Some : goal.returns-in-Some
+returns-in-Some g c = grind (arith, common_steps)

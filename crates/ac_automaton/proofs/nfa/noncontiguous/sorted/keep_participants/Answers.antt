@@ -28,3 +28,15 @@ loop-at-preserved g c =
 
 pub returns-clause-kept : goal.returns-clause-kept
 returns-clause-kept g c = grind (arith, common_steps, Keeps-end c.args.ignores_case c.args.sorted.now.items c.loop-at.sorted.items c.truncate.new.self.items c.loop-at.kept c.loop-at.at c.loop-at.prefixes.items c.loop-at.invariant (omega (arith, c.len-at-end.ensures)) c.truncate.ensures.items)
+
+pub loop-at-init : goal.loop-at-init
+loop-at-init g c = grind (arith, common_steps)
+
+pub returns-clause-few : goal.returns-clause-few
+returns-clause-few g c = grind (arith, common_steps)
+
+pub returns-clause-numbered : goal.returns-clause-numbered
+returns-clause-numbered g c = grind (arith, common_steps)
+
+pub returns-clause-short : goal.returns-clause-short
+returns-clause-short g c = grind (arith, common_steps)

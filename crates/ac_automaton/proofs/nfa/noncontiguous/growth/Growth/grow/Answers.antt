@@ -1,4 +1,4 @@
-use Rattle.std.proofs.Common.{◌≡◌, ◌+◌, ◌≤◌, Bool, ℕ, List, length, map, sym, ◌∙◌, ap, subst, arith, Some, slice_get, rules}
+use Rattle.std.proofs.Common.{◌≡◌, ◌+◌, ◌≤◌, ◌++◌, [], ◌∷◌, Bool, ℕ, List, length, map, sym, ◌∙◌, ap, subst, arith, Some, slice_get, rules}
 use Rattle.std.proofs.lemmas.Option.{slice_get_read}
 use Rattle.std.proofs.lemmas.Grind.{common_steps}
 use Rattle.ac_automaton.specs.Util.{MatchKind, plain}
@@ -52,14 +52,18 @@ loop-at-init g c =
     let new = c.branch-self.new.self in
     let begun = c.requires.begun.2 in
     let same = ap (λ (from : Source). from.states) kept in
+    let two : new.states.len ≡ 2 = new.states.ok.0 ∙ ap length (same ∙ begun.two) in
+    let resized : c.resize.new.self.items
+    ≡ (c.args.self.states.items ++ c.in_ok-start.start ∷ []) ++ c.in_ok-start.start ∷ []
+    = rw begun.two (rw (two, same, begun.two) at c.in_ok-resize.ensures.items) in
     record {
       kind = ap (λ (from : Source). from.kind) kept;
       sorted = ap (λ (from : Source). from.sorted) kept;
-      going = subst (λ (from : Source). IsGoingFrom from.kind from.sorted c.push-2.new.self.items
+      going = subst (λ (from : Source). IsGoingFrom from.kind from.sorted c.resize.new.self.items
           new.transitions.items new.queue.items 0) (sym kept) (λ texts order.
           let sorted = c.args.self.sorted in
           let patterns = map (plain sorted.ignores_case) texts in
-          rw (c.in_ok-push-2.ensures.items, c.in_ok-push.ensures.items, same)
+          rw resized
           (start-going c.args.self.kind sorted.ignores_case patterns sorted.patterns c.args.self.states.items
           c.args.self.queue.items c.start-start.result c.in_ok-start.start new.transitions.items new.queue.items
           begun.two begun.no_queue
@@ -134,11 +138,11 @@ loop-at-preserved g c =
     record {
       kind = ap (λ (from : Source). from.kind) kept ∙ c.loop-at.invariant.kind;
       sorted = ap (λ (from : Source). from.sorted) kept ∙ c.loop-at.invariant.sorted;
-      going = subst (λ (from : Source). IsGoingFrom from.kind from.sorted c.push-in-loop-at.new.self.items
+      going = subst (λ (from : Source). IsGoingFrom from.kind from.sorted c.push.new.self.items
           new.transitions.items new.queue.items (c.loop-at.at + 1)) (sym kept) (λ texts order.
           let sorted = c.loop-at.self.sorted in
           let patterns = map (plain sorted.ignores_case) texts in
-          rw (c.in_ok-push-3.ensures.items, same)
+          rw (c.in_ok-push.ensures.items, same)
           (going-on c.loop-at.self.kind sorted.ignores_case patterns sorted.patterns
           (c.loop-at.invariant.going texts order) (waits g s)
           (c.in_ok-state.ensures.branched patterns (may g s texts order))));
