@@ -72,23 +72,7 @@ fn walk_of(alloc: Global, searcher: &AhoCorasick, input: Input<'_>) -> Result<Ve
     Ok(triples_of(alloc, searcher.try_find_iter(input)?)?)
 }
 
-/// Returns the slices of a haystack at which the matches stand.
-fn slices_of<'t>(
-    alloc: Global,
-    searcher: &AhoCorasick,
-    haystack: &'t [u8],
-) -> Result<Vec<&'t [u8]>, AllocError>
-    requires { find_refusal searcher.now.built (whole_input haystack.now) ≡ None }
-{
-    let mut slices = Vec::new(alloc);
-    answers_lie_inside(searcher, Input::new(haystack));
-    for m in searcher.find_iter(Input::new(haystack)) {
-        slices.push(&haystack[m.range()])?;
-    }
-    Ok(slices)
-}
-
-/// Returns the same of a text, whose characters the patterns don't cut.
+/// Returns the parts of a text at which the matches stand, where the patterns cut no character.
 fn parts_of<'t>(
     alloc: Global,
     searcher: &AhoCorasick,
@@ -105,20 +89,21 @@ fn parts_of<'t>(
     Ok(parts)
 }
 
-/// Returns the names that belong to the patterns of the matches.
-fn names_of<'n>(
+/// Returns the name that belongs to the pattern of each match, and the slice at which the match stands.
+fn names_and_slices_of<'n, 't>(
     alloc: Global,
     searcher: &AhoCorasick,
     names: &[&'n str],
-    haystack: &[u8],
-) -> Result<Vec<&'n str>, AllocError>
+    haystack: &'t [u8],
+) -> Result<Vec<(&'n str, &'t [u8])>, AllocError>
     requires supported { find_refusal searcher.now.built (whole_input haystack.now) ≡ None }
     requires named { length names.now ≡ length searcher.now.built.patterns }
 {
+    let input = Input::new(haystack);
     let mut found = Vec::new(alloc);
-    answers_lie_inside(searcher, Input::new(haystack));
-    for m in searcher.find_iter(Input::new(haystack)) {
-        found.push(names[m.pattern().as_usize()])?;
+    answers_lie_inside(searcher, input);
+    for m in searcher.find_iter(input) {
+        found.push((names[m.pattern().as_usize()], &haystack[m.range()]))?;
     }
     Ok(found)
 }
@@ -145,11 +130,14 @@ fn first_slice<'t>(searcher: &AhoCorasick, haystack: &'t [u8]) -> Option<&'t [u8
 fn matches_can_be_used_as_indices(rt: HostRuntime) -> Result<(), Fail> {
     let searcher = AhoCorasick::new(rt.alloc(), &[b"apple", b"maple", b"Snapple"])?;
     let haystack = b"Nobody likes maple in their apple flavored Snapple.";
-    let slices = slices_of(rt.alloc(), &searcher, haystack)?;
-    let wanted: [&[u8]; 3] = [b"maple", b"apple", b"Snapple"];
-    same(&rt, slices.as_slice(), wanted.as_slice());
-    let names = names_of(rt.alloc(), &searcher, &["fruit", "tree", "drink"], haystack)?;
-    same(&rt, names.as_slice(), ["tree", "fruit", "drink"].as_slice());
+    let names = ["fruit", "tree", "drink"];
+    let found = names_and_slices_of(rt.alloc(), &searcher, &names, haystack)?;
+    let wanted: [(&str, &[u8]); 3] = [
+        ("tree", b"maple"),
+        ("fruit", b"apple"),
+        ("drink", b"Snapple"),
+    ];
+    same(&rt, found.as_slice(), wanted.as_slice());
     same(&rt, count_of(&searcher, haystack), 3);
     same(
         &rt,
@@ -195,6 +183,11 @@ fn a_new_searcher_reports_its_settings(rt: HostRuntime) -> Result<(), Fail> {
     );
     same(&rt, lengths_of(&searcher), (3, 4, 4));
     assert!(rt; searcher.memory_usage() > 0);
+    Ok(())
+}
+
+#[test]
+fn a_searcher_over_nothing_reports_no_lengths(rt: HostRuntime) -> Result<(), Fail> {
     let empty = AhoCorasick::new(rt.alloc(), &[])?;
     same(&rt, lengths_of(&empty), (usize::MAX, 0, 0));
     same(&rt, empty.try_find(Input::new(b"ushers"))?, None);

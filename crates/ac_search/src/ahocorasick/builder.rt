@@ -1,5 +1,5 @@
 //! The settings of a searcher, and its build.
-ghost use Rattle.std.specs.Prelude.{◌≡◌, None};
+ghost use Rattle.std.specs.Prelude.{◌≡◌, IfOk, None};
 ghost use Rattle.ac_util.specs.declared.search.StartKind;
 ghost use Rattle.ac_util.specs.Patterns.{bytes_of};
 ghost use Rattle.ac_search.specs.Engines.{IsMadeOrRefused};
@@ -15,7 +15,7 @@ use ac_engines::dfa;
 use ac_engines::nfa::contiguous;
 use ac_util::error::BuildError;
 use ac_util::search::{MatchKind, StartKind};
-use std::alloc::Allocator;
+use std::alloc::{AllocError, Allocator};
 use std::marker::Model;
 use std::rc::Rc;
 
@@ -311,7 +311,7 @@ impl AhoCorasickBuilder {
         let engine = self
             .contiguous()
             .build_from_noncontiguous(alloc.clone()?, nfa)?;
-        Ok(Engine::Contiguous(Rc::new(alloc.clone()?, engine)?))
+        Ok(Engine::Contiguous(shared(alloc, engine)?))
     }
 
     /// Returns the DFA that is built from a noncontiguous NFA.
@@ -324,7 +324,7 @@ impl AhoCorasickBuilder {
     {
         let alloc = nfa.allocator();
         let engine = self.dfa().build_from_noncontiguous(alloc.clone()?, nfa)?;
-        Ok(Engine::Dfa(Rc::new(alloc.clone()?, engine)?))
+        Ok(Engine::Dfa(shared(alloc, engine)?))
     }
 
     /// Returns the builder of a contiguous NFA with this builder's dense depth and byte classes.
@@ -348,4 +348,14 @@ impl AhoCorasickBuilder {
         dfa.byte_classes(self.byte_classes);
         dfa
     }
+}
+
+/// Returns a value that can be shared, in memory of this allocator.
+///
+/// # Errors
+/// `AllocError` where a request for memory is refused.
+fn shared<T: Drop, A: Allocator + Clone>(alloc: &A, value: T) -> Result<Rc<T, A>, AllocError>
+    ensures { IfOk result (λ shared. shared.value ≡ value) }
+{
+    Ok(Rc::new(alloc.clone()?, value)?)
 }

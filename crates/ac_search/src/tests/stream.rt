@@ -55,10 +55,10 @@ fn compare_given<'a>(
     rt: &impl Abort,
     alloc: Global,
     searcher: &AhoCorasick,
-    mut matches: StreamFindIter<'a, Pieces<'a>>,
+    matches: &mut StreamFindIter<'a, Pieces<'a>>,
     (_, wanted, end, kept): Walk<'a>,
-) -> Result<(), Fail> {
-    let (walk, ended, stays) = walked(alloc, &mut matches)?;
+) -> Result<(), AllocError> {
+    let (walk, ended, stays) = walked(alloc, matches)?;
     same_by(rt, (walk.as_slice(), ended), (wanted, Some(end)), searcher);
     same_by(rt, (stays, matches.kept_len()), (true, kept), searcher);
     Ok(())
@@ -71,10 +71,11 @@ fn compare_walk<'a>(
     searcher: &'a AhoCorasick,
     row: Walk<'a>,
 ) -> Result<(), Fail> {
-    let tried = searcher.try_stream_find_iter(alloc, reader_of(row.0))?;
-    compare_given(rt, alloc, searcher, tried, row)?;
-    let begun = searcher.stream_find_iter(alloc, reader_of(row.0))?;
-    compare_given(rt, alloc, searcher, begun, row)
+    let mut tried = searcher.try_stream_find_iter(alloc, reader_of(row.0))?;
+    compare_given(rt, alloc, searcher, &mut tried, row)?;
+    let mut begun = searcher.stream_find_iter(alloc, reader_of(row.0))?;
+    compare_given(rt, alloc, searcher, &mut begun, row)?;
+    Ok(())
 }
 
 /// Patterns, match kinds, and streams.

@@ -1,7 +1,6 @@
 use super::super::{AhoCorasick, AhoCorasickBuilder};
-use super::{AhoCorasickKind, Engine};
+use super::AhoCorasickKind;
 use crate::tests::same_by;
-use ac_automaton::automaton::Automaton;
 use ac_util::patterns::Patterns;
 use ac_util::prefilter::Prefilter;
 use std::alloc::Global;
@@ -24,11 +23,7 @@ const LISTS: [(&'static [&'static [u8]], bool); 4] = [
 
 /// Returns how many first bytes the prefilter of a searcher's engine skips by, if there is one.
 fn byte_count(searcher: &AhoCorasick) -> Option<usize> {
-    let prefilter = match &searcher.engine {
-        Engine::Noncontiguous(nfa) => nfa.as_ref().prefilter(),
-        Engine::Contiguous(nfa) => nfa.as_ref().prefilter(),
-        Engine::Dfa(dfa) => dfa.as_ref().prefilter(),
-    };
+    let prefilter = searcher.engine.common().prefilter();
     prefilter.map(|p| p.byte_count())
 }
 

@@ -1,6 +1,6 @@
 //! Finds that stand far from the build of their searcher.
 use crate::laws::finds_are_supported;
-use crate::tests::same;
+use crate::tests::{same, triples_of};
 use crate::{AhoCorasick, Input, Match, MatchKind, StartKind};
 use std::test::Fail;
 
@@ -19,10 +19,7 @@ fn built_searchers_find(rt: HostRuntime) -> Result<(), Fail> {
         .start_kind(StartKind::Both);
     let both = builder.build(alloc, patterns)?;
     finds_are_supported(&both, input);
-    let mut ends = Vec::new(alloc);
-    for m in both.find_iter(input) {
-        ends.push(m.end())?;
-    }
-    same(&rt, ends.as_slice(), [3, 12].as_slice());
+    let found = triples_of(alloc, both.find_iter(input))?;
+    same(&rt, found.as_slice(), [(0, 0, 3), (0, 9, 12)].as_slice());
     Ok(())
 }

@@ -29,7 +29,6 @@ fn settings_of_engines(rt: HostRuntime) -> Result<(), Fail> {
     assert_eq!(rt; searcher.kind(), AhoCorasickKind::ContiguousNFA);
     let found = searcher.try_find(Input::new(b"xx bar"))?;
     assert_eq!(rt; found, Some(Match::must(1, 3..6))); // as with any engine
-
     Ok(())
 }
 

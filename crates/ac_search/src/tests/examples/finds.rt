@@ -12,7 +12,12 @@ fn searchers(rt: HostRuntime) -> Result<(), Fail> {
     let searcher = AhoCorasick::new(alloc, patterns)?;
     let found = searcher.find(Input::new(b"xxx bar xxx"));
     assert_eq!(rt; found, Some(Match::must(1, 4..7)));
+    Ok(())
+}
 
+#[test]
+fn searchers_for_texts(rt: HostRuntime) -> Result<(), Fail> {
+    let alloc = rt.alloc();
     let patterns = patterns_of(alloc, &["apple", "maple", "Snapple"])?;
     let searcher = AhoCorasick::new(alloc, &patterns)?;
     let found = searcher.find(Input::of_text("a maple"));
@@ -40,7 +45,12 @@ fn finds(rt: HostRuntime) -> Result<(), Fail> {
     let searcher = AhoCorasick::new(alloc, &[b"foo", b"bar", b"quux"])?;
     assert!(rt; searcher.is_match(Input::new(b"xxx bar xxx")));
     assert!(rt; !searcher.is_match(Input::new(b"xxx qux xxx")));
+    Ok(())
+}
 
+#[test]
+fn finds_that_may_be_refused(rt: HostRuntime) -> Result<(), Fail> {
+    let alloc = rt.alloc();
     let searcher = AhoCorasick::new(alloc, &[b"bar"])?;
     let input = Input::new(b"foo bar");
     assert_eq!(rt; searcher.try_find(input), Ok(Some(Match::must(0, 4..7))));
@@ -58,7 +68,6 @@ fn walks(rt: HostRuntime) -> Result<(), Fail> {
         ends.push(m.end())?; // pattern 1 at 0..5, pattern 0 at 7..12
     }
     assert_eq!(rt; ends.as_slice(), [5, 12].as_slice());
-
     Ok(())
 }
 

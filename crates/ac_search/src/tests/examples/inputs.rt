@@ -40,7 +40,12 @@ fn options_of_inputs_count(rt: HostRuntime) -> Result<(), Fail> {
     assert_eq!(rt; searcher.try_find(input)?, None);
     let found = searcher.try_find(input.range(4..7))?;
     assert_eq!(rt; found, Some(Match::must(0, 4..7)));
+    Ok(())
+}
 
+#[test]
+fn the_earliest_match_is_found(rt: HostRuntime) -> Result<(), Fail> {
+    let alloc = rt.alloc();
     let mut builder = AhoCorasick::builder();
     builder.match_kind(MatchKind::LeftmostLongest);
     let searcher = builder.build(alloc, &[b"b", b"abc", b"abcd"])?;

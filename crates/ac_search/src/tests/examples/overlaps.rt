@@ -28,7 +28,12 @@ fn listings_that_may_be_refused(rt: HostRuntime) -> Result<(), Fail> {
     let outcome = searcher.try_find_overlapping(Input::new(b"append"), &mut state);
     let got = MatchKind::LeftmostFirst;
     assert_eq!(rt; outcome, Err(MatchError::UnsupportedOverlapping { got }));
+    Ok(())
+}
 
+#[test]
+fn listings_that_are_supported(rt: HostRuntime) -> Result<(), Fail> {
+    let alloc = rt.alloc();
     let searcher = AhoCorasick::new(alloc, &[b"append", b"app"])?;
     let mut matches = searcher.try_find_overlapping_iter(Input::new(b"append"))?;
     assert_eq!(rt; matches.next(), Some(Match::must(1, 0..3)));

@@ -9,7 +9,12 @@ fn replacements(rt: HostRuntime) -> Result<(), Fail> {
     let text = "append the app to the appendage";
     let replaced = searcher.replace_all(alloc, text, &["x", "y", "z"])?;
     assert_eq!(rt; replaced.as_str(), "zend the z to the zendage");
+    Ok(())
+}
 
+#[test]
+fn replacements_of_bytes(rt: HostRuntime) -> Result<(), Fail> {
+    let alloc = rt.alloc();
     let searcher = AhoCorasick::new(alloc, &[b"fox", b"brown", b"quick"])?;
     let texts: &[&[u8]] = &[b"sloth", b"grey", b"slow"];
     let replaced = searcher.replace_all_bytes(alloc, b"The quick brown fox.", texts)?;
@@ -26,7 +31,12 @@ fn replacements_by_closures(rt: HostRuntime) -> Result<(), Fail> {
         destination.push_str(slice).is_ok() && destination.push_str("!").is_ok()
     })?;
     assert_eq!(rt; destination.as_str(), "the app!");
+    Ok(())
+}
 
+#[test]
+fn replacements_of_bytes_by_closures(rt: HostRuntime) -> Result<(), Fail> {
+    let alloc = rt.alloc();
     let searcher = AhoCorasick::new(alloc, &[b"password"])?;
     let mut destination = Vec::new(alloc);
     searcher.replace_all_with_bytes(b"a password", &mut destination, |_, _, destination| {
@@ -45,7 +55,12 @@ fn replacements_by_closures_that_stop(rt: HostRuntime) -> Result<(), Fail> {
         m.start() > 0 && destination.push_str("x").is_ok()
     })?;
     assert_eq!(rt; destination.as_str(), "ba"); // it stopped at the first match
+    Ok(())
+}
 
+#[test]
+fn replacements_of_bytes_by_closures_that_stop(rt: HostRuntime) -> Result<(), Fail> {
+    let alloc = rt.alloc();
     let searcher = AhoCorasick::new(alloc, &[b"a"])?;
     let mut destination = Vec::new(alloc);
     searcher.try_replace_all_with_bytes(b"aba", &mut destination, |_, slice, destination| {
