@@ -72,6 +72,19 @@ fn walk_of(alloc: Global, searcher: &AhoCorasick, input: Input<'_>) -> Result<Ve
     Ok(triples_of(alloc, searcher.try_find_iter(input)?)?)
 }
 
+/// Compares the walk of a searcher with what it has to be.
+fn same_walk(
+    rt: &impl Abort,
+    alloc: Global,
+    searcher: &AhoCorasick,
+    input: Input<'_>,
+    wanted: &[Triple],
+) -> Result<(), Fail> {
+    let walked = walk_of(alloc, searcher, input)?;
+    same(rt, walked.as_slice(), wanted);
+    Ok(())
+}
+
 /// Returns the parts of a text at which the matches stand, where the patterns cut no character.
 fn parts_of<'t>(
     alloc: Global,
@@ -155,13 +168,17 @@ fn matches_of_texts_cut_no_character(rt: HostRuntime) -> Result<(), Fail> {
     Ok(())
 }
 
-/// Returns which engine serves, the match kind and the start kind.
-fn kinds_of(searcher: &AhoCorasick) -> (AhoCorasickKind, MatchKind, StartKind) {
-    (
-        searcher.kind(),
-        searcher.match_kind(),
-        searcher.start_kind(),
-    )
+/// Compares which engine serves, the match kind and the start kind with what they have to be.
+fn same_kinds(
+    rt: &impl Abort,
+    searcher: &AhoCorasick,
+    engine: AhoCorasickKind,
+    kind: MatchKind,
+    start_kind: StartKind,
+) {
+    same(rt, searcher.kind(), engine);
+    same(rt, searcher.match_kind(), kind);
+    same(rt, searcher.start_kind(), start_kind);
 }
 
 /// Returns the shortest length of a pattern, the longest, and how many patterns there are.
@@ -173,15 +190,16 @@ fn lengths_of(searcher: &AhoCorasick) -> (usize, usize, usize) {
     )
 }
 
+/// Compares these with what they have to be.
+fn same_lengths(rt: &impl Abort, searcher: &AhoCorasick, wanted: (usize, usize, usize)) {
+    same(rt, lengths_of(searcher), wanted);
+}
+
 #[test]
 fn a_new_searcher_reports_its_settings(rt: HostRuntime) -> Result<(), Fail> {
     let searcher = AhoCorasick::new(rt.alloc(), &[b"foo", b"bar", b"quux", b"baz"])?;
-    same(
-        &rt,
-        kinds_of(&searcher),
-        (AhoCorasickKind::DFA, Standard, Unanchored),
-    );
-    same(&rt, lengths_of(&searcher), (3, 4, 4));
+    same_kinds(&rt, &searcher, AhoCorasickKind::DFA, Standard, Unanchored);
+    same_lengths(&rt, &searcher, (3, 4, 4));
     assert!(rt; searcher.memory_usage() > 0);
     Ok(())
 }
@@ -189,7 +207,7 @@ fn a_new_searcher_reports_its_settings(rt: HostRuntime) -> Result<(), Fail> {
 #[test]
 fn a_searcher_over_nothing_reports_no_lengths(rt: HostRuntime) -> Result<(), Fail> {
     let empty = AhoCorasick::new(rt.alloc(), &[])?;
-    same(&rt, lengths_of(&empty), (usize::MAX, 0, 0));
+    same_lengths(&rt, &empty, (usize::MAX, 0, 0));
     same(&rt, empty.try_find(Input::new(b"ushers"))?, None);
     Ok(())
 }
@@ -205,14 +223,11 @@ fn each_setting_counts(rt: HostRuntime) -> Result<(), Fail> {
         .kind(Some(AhoCorasickKind::NoncontiguousNFA))
         .ascii_case_insensitive(true);
     let all = builder.build(rt.alloc(), &patterns)?;
-    let kinds = (AhoCorasickKind::NoncontiguousNFA, LeftmostFirst, Both);
-    same(&rt, kinds_of(&all), kinds);
+    let engine = AhoCorasickKind::NoncontiguousNFA;
+    same_kinds(&rt, &all, engine, LeftmostFirst, Both);
     let input = Input::new(b"appendage APP");
-    let walked = walk_of(rt.alloc(), &usual, input)?;
-    same(&rt, walked.as_slice(), [(2, 0, 3)].as_slice());
-    let walked = walk_of(rt.alloc(), &all, input)?;
-    same(&rt, walked.as_slice(), [(0, 0, 6), (2, 10, 13)].as_slice());
-    Ok(())
+    same_walk(&rt, rt.alloc(), &usual, input, &[(2, 0, 3)])?;
+    same_walk(&rt, rt.alloc(), &all, input, &[(0, 0, 6), (2, 10, 13)])
 }
 
 /// A clone of a builder has the settings from then, and a clone of a searcher answers as it does.
@@ -225,15 +240,11 @@ fn a_clone_answers_equally(rt: HostRuntime) -> Result<(), Fail> {
     builder.ascii_case_insensitive(false);
     let patterns: &[&[u8]] = &[b"he", b"she", b"hers"];
     let clone = settings.build(rt.alloc(), patterns)?.clone()?;
-    let walked = walk_of(rt.alloc(), &clone, Input::new(b"usHERS he"))?;
-    same(&rt, walked.as_slice(), [(1, 1, 4), (0, 7, 9)].as_slice());
-    let kinds = (AhoCorasickKind::ContiguousNFA, LeftmostLongest, Both);
-    same(
-        &rt,
-        (kinds_of(&clone), lengths_of(&clone)),
-        (kinds, (2, 4, 3)),
-    );
-    Ok(())
+    let engine = AhoCorasickKind::ContiguousNFA;
+    same_kinds(&rt, &clone, engine, LeftmostLongest, Both);
+    same_lengths(&rt, &clone, (2, 4, 3));
+    let wanted = [(1, 1, 4), (0, 7, 9)];
+    same_walk(&rt, rt.alloc(), &clone, Input::new(b"usHERS he"), &wanted)
 }
 
 #[test]
@@ -246,20 +257,24 @@ fn a_searcher_is_shown(rt: HostRuntime) -> Result<(), Fail> {
     Ok(())
 }
 
-#[test]
-fn a_state_is_cloned(rt: HostRuntime) -> Result<(), Fail> {
-    let searcher = AhoCorasick::new(rt.alloc(), &[b"a", b"aa"])?;
-    let input = Input::new(b"aa");
+/// Returns the second match of a listing by a state, and by a clone of it that was made after the first one.
+fn seconds_of(
+    searcher: &AhoCorasick,
+    input: Input<'_>,
+) -> Result<(Option<Match>, Option<Match>), MatchError> {
     let mut state = OverlappingState::start();
     searcher.try_find_overlapping(input, &mut state)?;
     let mut clone = state.clone();
     searcher.try_find_overlapping(input, &mut state)?;
     searcher.try_find_overlapping(input, &mut clone)?;
-    let found = [state.get_match(), clone.get_match()];
-    same(
-        &rt,
-        found,
-        [Some(Match::must(1, 0..2)), Some(Match::must(1, 0..2))],
-    );
+    Ok((state.get_match(), clone.get_match()))
+}
+
+#[test]
+fn a_state_is_cloned(rt: HostRuntime) -> Result<(), Fail> {
+    let searcher = AhoCorasick::new(rt.alloc(), &[b"a", b"aa"])?;
+    let (by_state, by_clone) = seconds_of(&searcher, Input::new(b"aa"))?;
+    same(&rt, by_state, Some(Match::must(1, 0..2)));
+    same(&rt, by_clone, Some(Match::must(1, 0..2)));
     Ok(())
 }

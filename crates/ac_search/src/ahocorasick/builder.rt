@@ -292,7 +292,7 @@ impl AhoCorasickBuilder {
         match kind {
             AhoCorasickKind::NoncontiguousNFA => {
                 let alloc = nfa.allocator().clone()?;
-                Ok(Engine::Noncontiguous(Rc::new(alloc, nfa)?))
+                Ok(Engine::Noncontiguous(shared_in(alloc, nfa)?))
             }
             AhoCorasickKind::ContiguousNFA => self.contiguous_over(&nfa),
             AhoCorasickKind::DFA => self.dfa_over(&nfa),
@@ -350,12 +350,22 @@ impl AhoCorasickBuilder {
     }
 }
 
-/// Returns a value that can be shared, in memory of this allocator.
+/// Returns a value that can be shared, in memory of a clone of this allocator.
 ///
 /// # Errors
 /// `AllocError` where a request for memory is refused.
 fn shared<T: Drop, A: Allocator + Clone>(alloc: &A, value: T) -> Result<Rc<T, A>, AllocError>
     ensures { IfOk result (λ shared. shared.value ≡ value) }
 {
-    Ok(Rc::new(alloc.clone()?, value)?)
+    shared_in(alloc.clone()?, value)
+}
+
+/// Returns a value that can be shared, in memory of this allocator.
+///
+/// # Errors
+/// `AllocError` where a request for memory is refused.
+fn shared_in<T: Drop, A: Allocator>(alloc: A, value: T) -> Result<Rc<T, A>, AllocError>
+    ensures { IfOk result (λ shared. shared.value ≡ value) }
+{
+    Ok(Rc::new(alloc, value)?)
 }

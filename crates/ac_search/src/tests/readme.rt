@@ -104,11 +104,5 @@ fn streams(rt: HostRuntime) -> Result<(), Fail> {
     let mut writer = Written::new(alloc);
     searcher.try_stream_replace_all(alloc, &mut reader, &mut writer, &[b"***", b"***"])?;
     assert_eq!(rt; writer.bytes(), b"a *** ***".as_slice());
-
-    let mut ends = Vec::new(alloc);
-    for found in searcher.try_stream_find_iter(alloc, Bytes::new(b"a secret password"))? {
-        ends.push(found?.end())?;
-    }
-    assert_eq!(rt; ends.as_slice(), [8, 17].as_slice());
     Ok(())
 }

@@ -68,6 +68,10 @@ pub(super) type Rows = (Search, Option<(usize, usize)>, &'static [Row]);
 
 pub(super) const WHOLE: &[Rows] = &[(USUAL, None, WALKS), (EARLIEST, None, EARLIEST_WALKS)];
 
+pub(super) const WHOLE_STANDARD: &[Rows] = &[(USUAL, None, STANDARD_WALKS)];
+
+pub(super) const WHOLE_LEFTMOST: &[Rows] = &[(USUAL, None, LEFTMOST_WALKS)];
+
 pub(super) const OTHERS: &[Rows] = &[
     (WITHOUT_CASE, None, WALKS_WITHOUT_CASE),
     (FROM_START, None, ANCHORED_WALKS),
@@ -117,18 +121,49 @@ const ABC: &[&[u8]] = &[b"abc"];
 
 const FROM_FOUR: &[Row] = &[(FIRST, PREFIXES, b"foo abcd", &[(1, 4, 7)])];
 
+/// Rows that hold under every match kind.
 const WALKS: &[Row] = &[
     (EACH, FRUIT, LIKES, &[(1, 13, 18), (0, 28, 33), (2, 43, 50)]),
     (EACH, FRUIT, b"Nobody", &[]),
+    (EACH, &[b"ab", b"ab"], b"abab", &[(0, 0, 2), (0, 2, 4)]),
+    (EACH, PREFIXES, b"xb", &[(0, 1, 2)]),
+    (EACH, &[b"aba"], b"ababa", &[(0, 0, 3)]),
+    (
+        EACH,
+        &[b"he", b"she", b"his", b"hers"],
+        b"ushers",
+        &[(1, 1, 4)],
+    ),
+    (EACH, &[b""], b"ab", &[(0, 0, 0), (0, 1, 1), (0, 2, 2)]),
+    (EACH, &[b""], b"", &[(0, 0, 0)]),
+    (EACH, &[], b"abc", &[]),
+    (EACH, CAPITALS, b"foo bar baz", &[]),
+];
+
+/// Rows of `MatchKind::Standard`.
+const STANDARD_WALKS: &[Row] = &[
     (STANDARD, PREFIXES, b"abcd", &[(0, 1, 2)]),
-    (FIRST, PREFIXES, b"abcd", &[(1, 0, 3)]),
-    (LONGEST, PREFIXES, b"abcd", &[(2, 0, 4)]),
     (
         STANDARD,
         WORDS,
         SENTENCE,
         &[(2, 0, 3), (2, 11, 14), (2, 22, 25)],
     ),
+    (STANDARD, &[b"", b"a"], b"a", &[(0, 0, 0), (0, 1, 1)]),
+    (STANDARD, NAMES, b"Samwise", &[(1, 0, 3)]),
+    (
+        STANDARD,
+        &[b"a", b"aa"],
+        b"aaa",
+        &[(0, 0, 1), (0, 1, 2), (0, 2, 3)],
+    ),
+    (STANDARD, &[b"bc", b"abcd"], b"abcd", &[(0, 1, 3)]),
+];
+
+/// Rows of the leftmost kinds.
+const LEFTMOST_WALKS: &[Row] = &[
+    (FIRST, PREFIXES, b"abcd", &[(1, 0, 3)]),
+    (LONGEST, PREFIXES, b"abcd", &[(2, 0, 4)]),
     (
         FIRST,
         WORDS,
@@ -141,7 +176,6 @@ const WALKS: &[Row] = &[
         SENTENCE,
         &[(0, 0, 6), (2, 11, 14), (1, 22, 31)],
     ),
-    (STANDARD, &[b"", b"a"], b"a", &[(0, 0, 0), (0, 1, 1)]),
     (LONGEST, &[b"", b"a"], b"ba", &[(0, 0, 0), (1, 1, 2)]),
     (FIRST, FAILS_LATE, b"abcdefghz", &[(0, 0, 1), (2, 7, 9)]),
     (LONGEST, FAILS_LATE, b"abcdefghz", &[(3, 0, 8)]),
@@ -152,31 +186,10 @@ const WALKS: &[Row] = &[
         b"abd",
         &[(2, 0, 0), (1, 1, 3)],
     ),
-    (EACH, &[b"ab", b"ab"], b"abab", &[(0, 0, 2), (0, 2, 4)]),
     (FIRST, PREFIXES, b"foo abcd", &[(1, 4, 7)]),
-    (EACH, PREFIXES, b"xb", &[(0, 1, 2)]),
-    (STANDARD, NAMES, b"Samwise", &[(1, 0, 3)]),
     (FIRST, NAMES, b"Samwise", &[(0, 0, 7)]),
-    (EACH, &[b"aba"], b"ababa", &[(0, 0, 3)]),
-    (
-        STANDARD,
-        &[b"a", b"aa"],
-        b"aaa",
-        &[(0, 0, 1), (0, 1, 2), (0, 2, 3)],
-    ),
-    (STANDARD, &[b"bc", b"abcd"], b"abcd", &[(0, 1, 3)]),
     (LEFTMOST, &[b"abcd", b"bc"], b"abce", &[(1, 1, 3)]),
     (LEFTMOST, &[b"abcd", b"bc"], b"abcd", &[(0, 0, 4)]),
-    (
-        EACH,
-        &[b"he", b"she", b"his", b"hers"],
-        b"ushers",
-        &[(1, 1, 4)],
-    ),
-    (EACH, &[b""], b"ab", &[(0, 0, 0), (0, 1, 1), (0, 2, 2)]),
-    (EACH, &[b""], b"", &[(0, 0, 0)]),
-    (EACH, &[], b"abc", &[]),
-    (EACH, CAPITALS, b"foo bar baz", &[]),
 ];
 
 const EARLIEST_WALKS: &[Row] = &[

@@ -108,6 +108,11 @@ fn each_engine_walks_a_stream_alike(rt: HostRuntime) -> Result<(), Fail> {
             compare_walks(&rt, rt.alloc(), engine, walks)?;
         }
     }
+    Ok(())
+}
+
+#[test]
+fn each_engine_walks_a_stopped_stream_alike(rt: HostRuntime) -> Result<(), Fail> {
     for engine in KINDS {
         for &walks in STOPPED_WALKS {
             compare_walks(&rt, rt.alloc(), &usual(engine), walks)?;
@@ -213,6 +218,11 @@ fn each_engine_replaces_in_a_stream_alike(rt: HostRuntime) -> Result<(), Fail> {
             compare_texts(&rt, rt.alloc(), engine, exchange, rows)?;
         }
     }
+    Ok(())
+}
+
+#[test]
+fn each_engine_replaces_in_a_stopped_stream_alike(rt: HostRuntime) -> Result<(), Fail> {
     for engine in KINDS {
         for &(exchange, rows) in STOPPED_TEXTS {
             compare_texts(&rt, rt.alloc(), &usual(engine), exchange, rows)?;
@@ -269,23 +279,30 @@ fn stream_with(alloc: Global, before: usize, text: &[u8]) -> Result<Vec<u8>, All
     Ok(stream)
 }
 
+/// Compares the walks of a stream that is read to its end, by such an engine for `abc`, with what is wanted.
+fn compare_read(
+    rt: &impl Abort,
+    alloc: Global,
+    engine: &Engine,
+    stream: &[u8],
+    wanted: &[Triple],
+) -> Result<(), Fail> {
+    let builder = builder_of(engine, Standard, Unanchored);
+    let searcher = builder.build(alloc, &[b"abc"])?;
+    for most in [1, ALWAYS] {
+        let row = ((stream, most, ALWAYS, None), wanted, End::Whole, 0);
+        compare_walk(rt, alloc, &searcher, row)?;
+    }
+    Ok(())
+}
+
 /// The buffer has room for one byte of the match.
 #[test]
 fn a_match_begins_where_a_buffer_ends(rt: HostRuntime) -> Result<(), Fail> {
     let stream = stream_with(rt.alloc(), 65_535, b"abc")?;
-    let found = [(0, 65_535, 65_538)];
     for engine in KINDS {
-        let builder = builder_of(&usual(engine), Standard, Unanchored);
-        let searcher = builder.build(rt.alloc(), &[b"abc"])?;
-        for most in [1, ALWAYS] {
-            let row = (
-                (stream.as_slice(), most, ALWAYS, None),
-                found.as_slice(),
-                End::Whole,
-                0,
-            );
-            compare_walk(&rt, rt.alloc(), &searcher, row)?;
-        }
+        let wanted = [(0, 65_535, 65_538)];
+        compare_read(&rt, rt.alloc(), &usual(engine), &stream, &wanted)?;
     }
     Ok(())
 }
@@ -312,6 +329,40 @@ fn pattern_of(alloc: Global, len: usize) -> Result<Vec<u8>, AllocError> {
     Ok(pattern)
 }
 
+/// Compares the length of a buffer, and the walk of what a reader gives, with what is wanted.
+fn compare_buffered<'a>(
+    rt: &impl Abort,
+    alloc: Global,
+    searcher: &'a AhoCorasick,
+    reader: Pieces<'a>,
+    buffer: usize,
+    wanted: &[Triple],
+) -> Result<(), Fail> {
+    let mut matches = searcher.try_stream_find_iter(alloc, reader)?;
+    same(rt, matches.buffer_len(), buffer);
+    let (walk, end, _) = walked(alloc, &mut matches)?;
+    same(rt, (walk.as_slice(), end), (wanted, Some(End::Whole)));
+    Ok(())
+}
+
+/// Compares the same by each match kind for a pattern, of which each read gives so many bytes at most.
+fn compare_buffers(
+    rt: &impl Abort,
+    alloc: Global,
+    pattern: &[u8],
+    (stream, most): (&[u8], usize),
+    buffer: usize,
+    wanted: &[Triple],
+) -> Result<(), Fail> {
+    for &kind in EACH {
+        let builder = builder_of(&usual(None), kind, Unanchored);
+        let searcher = builder.build(alloc, &[pattern])?;
+        let reader = Pieces::new(stream, most, ALWAYS);
+        compare_buffered(rt, alloc, &searcher, reader, buffer, wanted)?;
+    }
+    Ok(())
+}
+
 /// A match may span two buffers.
 #[test]
 fn long_patterns_have_long_buffers(rt: HostRuntime) -> Result<(), Fail> {
@@ -321,19 +372,7 @@ fn long_patterns_have_long_buffers(rt: HostRuntime) -> Result<(), Fail> {
         stream.extend_from_slice(&pattern)?;
         let between = before.saturating_add(len);
         let found = [(0, before, between), (0, between, stream.len())];
-        for &kind in EACH {
-            let builder = builder_of(&usual(None), kind, Unanchored);
-            let searcher = builder.build(rt.alloc(), &[pattern.as_slice()])?;
-            let reader = Pieces::new(&stream, most, ALWAYS);
-            let mut matches = searcher.try_stream_find_iter(rt.alloc(), reader)?;
-            same(&rt, matches.buffer_len(), buffer);
-            let (walk, end, _) = walked(rt.alloc(), &mut matches)?;
-            same(
-                &rt,
-                (walk.as_slice(), end),
-                (found.as_slice(), Some(End::Whole)),
-            );
-        }
+        compare_buffers(&rt, rt.alloc(), &pattern, (&stream, most), buffer, &found)?;
     }
     Ok(())
 }
@@ -362,24 +401,45 @@ const REFUSALS: &[Refusal] = &[
     ),
 ];
 
+/// Compares how a searcher refuses to replace in a stream with what a row says, and that nothing is read or written.
+fn compare_refused_text(
+    rt: &impl Abort,
+    alloc: Global,
+    searcher: &AhoCorasick,
+    refusal: MatchError,
+) {
+    for &form in FORMS {
+        let row = (
+            (QUICK, 1, 0, None),
+            (1, ROOM, true),
+            b"".as_slice(),
+            End::Refused(refusal),
+        );
+        compare_text(rt, alloc, searcher, &[b"-", b"+"], form, row);
+    }
+}
+
+/// Compares how it refuses to search a stream, and that nothing is read.
+fn compare_refused_walk(
+    rt: &impl Abort,
+    alloc: Global,
+    searcher: &AhoCorasick,
+    refusal: MatchError,
+) {
+    let mut left = QUICK;
+    let matches = searcher.try_stream_find_iter(alloc, FromRead::new(&mut left));
+    let ended = end_of(matches.map(|_| ()));
+    same(rt, ended, End::Refused(refusal));
+    same(rt, left, QUICK);
+}
+
 #[test]
 fn a_refused_stream_is_not_read(rt: HostRuntime) -> Result<(), Fail> {
     for &(start_kind, kind, patterns, refusal) in REFUSALS {
         let builder = builder_of(&usual(None), kind, start_kind);
         let searcher = builder.build(rt.alloc(), patterns)?;
-        for &form in FORMS {
-            let row = (
-                (QUICK, 1, 0, None),
-                (1, ROOM, true),
-                b"".as_slice(),
-                End::Refused(refusal),
-            );
-            compare_text(&rt, rt.alloc(), &searcher, &[b"-", b"+"], form, row);
-        }
-        let mut left = QUICK;
-        let matches = searcher.try_stream_find_iter(rt.alloc(), FromRead::new(&mut left));
-        let ended = end_of(matches.map(|_| ()));
-        same(&rt, (ended, left), (End::Refused(refusal), QUICK));
+        compare_refused_text(&rt, rt.alloc(), &searcher, refusal);
+        compare_refused_walk(&rt, rt.alloc(), &searcher, refusal);
     }
     Ok(())
 }

@@ -1,6 +1,6 @@
 //! Each engine finds and walks as rows say.
 use super::engines::{ALL, EACH, Engine, builder_of, engines};
-use super::rows::{OTHERS, Row, Rows, Search, WHOLE};
+use super::rows::{OTHERS, Row, Rows, Search, WHOLE, WHOLE_LEFTMOST, WHOLE_STANDARD};
 use super::{Triple, lengths_of, same_by, triple_of, triples_of, walk_of};
 use crate::StartKind::Unanchored;
 use crate::{AhoCorasick, AhoCorasickBuilder, Input};
@@ -33,6 +33,22 @@ fn input_of<'h>(rt: &impl Abort, search: &Search, span: Span, haystack: &'h [u8]
         .range(start..end)
 }
 
+/// Compares what a searcher of a builder answers with its walk.
+fn compare_answers(
+    rt: &impl Abort,
+    alloc: Global,
+    builder: &AhoCorasickBuilder,
+    searcher: &AhoCorasick,
+    input: Input<'_>,
+    walk: &[Triple],
+) -> Result<(), Fail> {
+    let (walked, found, occurs) = answers_of(alloc, searcher, input)?;
+    let first = walk.first().copied();
+    same_by(rt, walked.as_slice(), walk, builder);
+    same_by(rt, (found, occurs), (first, first.is_some()), builder);
+    Ok(())
+}
+
 /// Compares what a clone of the searcher of a builder answers with what a row says.
 fn compare_row(
     rt: &impl Abort,
@@ -45,14 +61,7 @@ fn compare_row(
     let (_, patterns, haystack, walk) = row;
     let searcher = builder.build(alloc, patterns)?.clone()?;
     let input = input_of(rt, search, span, haystack);
-    let (walked, found, occurs) = answers_of(alloc, &searcher, input)?;
-    let first = walk.first().copied();
-    same_by(
-        rt,
-        (walked.as_slice(), found, occurs),
-        (walk, first, first.is_some()),
-        builder,
-    );
+    compare_answers(rt, alloc, builder, &searcher, input, walk)?;
     if patterns.is_empty() {
         same_by(rt, lengths_of(&searcher), (usize::MAX, 0, 0), builder);
     }
@@ -91,6 +100,16 @@ fn compare_engines(rt: &impl Abort, alloc: Global, rows: &[Rows]) -> Result<(), 
 #[test]
 fn each_engine_walks_alike(rt: HostRuntime) -> Result<(), Fail> {
     compare_engines(&rt, rt.alloc(), WHOLE)
+}
+
+#[test]
+fn each_engine_walks_alike_under_standard(rt: HostRuntime) -> Result<(), Fail> {
+    compare_engines(&rt, rt.alloc(), WHOLE_STANDARD)
+}
+
+#[test]
+fn each_engine_walks_alike_under_leftmost_kinds(rt: HostRuntime) -> Result<(), Fail> {
+    compare_engines(&rt, rt.alloc(), WHOLE_LEFTMOST)
 }
 
 /// Where case is ignored, from the start alone, and in spans.

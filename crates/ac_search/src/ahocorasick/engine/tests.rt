@@ -39,21 +39,36 @@ fn byte_counts(
     Ok([byte_count(&searcher), byte_count(&searcher.clone()?)])
 }
 
+/// Returns the same of an engine by the usual settings, and where there is to be no prefilter, and one.
+fn counts_by(
+    alloc: Global,
+    kind: Option<AhoCorasickKind>,
+    patterns: &[&[u8]],
+    ignores_case: bool,
+) -> Result<[Option<usize>; 5], Fail> {
+    let mut builder = AhoCorasickBuilder::new();
+    builder.kind(kind).ascii_case_insensitive(ignores_case);
+    let usual = byte_count(&builder.build(alloc, patterns)?);
+    let [off, off_in_clone] = byte_counts(alloc, &mut builder, false, patterns)?;
+    let [on, on_in_clone] = byte_counts(alloc, &mut builder, true, patterns)?;
+    Ok([usual, off, off_in_clone, on, on_in_clone])
+}
+
+/// Returns how many first bytes the prefilter of patterns and their case skips by, if there is one.
+fn own_count(alloc: Global, patterns: &[&[u8]], ignores_case: bool) -> Result<Option<usize>, Fail> {
+    let stored = Patterns::new(alloc, patterns)?;
+    let own = Prefilter::of(alloc, &stored, ignores_case)?;
+    Ok(own.as_ref().map(|p| p.byte_count()))
+}
+
 /// Each engine has the prefilter of the patterns and their case, and none where the setting is off.
 #[test]
 fn engines_have_the_prefilter_that_was_set(rt: HostRuntime) -> Result<(), Fail> {
     for (patterns, ignores_case) in LISTS {
-        let stored = Patterns::new(rt.alloc(), patterns)?;
-        let own = Prefilter::of(rt.alloc(), &stored, ignores_case)?;
-        let wanted = own.as_ref().map(|p| p.byte_count());
+        let own = own_count(rt.alloc(), patterns, ignores_case)?;
         for kind in KINDS {
-            let mut builder = AhoCorasickBuilder::new();
-            builder.kind(kind).ascii_case_insensitive(ignores_case);
-            let usual = builder.build(rt.alloc(), patterns)?;
-            let off = byte_counts(rt.alloc(), &mut builder, false, patterns)?;
-            let on = byte_counts(rt.alloc(), &mut builder, true, patterns)?;
-            let found = (byte_count(&usual), off, on);
-            same_by(&rt, found, (wanted, [None; 2], [wanted; 2]), &kind);
+            let found = counts_by(rt.alloc(), kind, patterns, ignores_case)?;
+            same_by(&rt, found, [own, None, None, own, own], &kind);
         }
     }
     Ok(())

@@ -41,10 +41,16 @@ fn stream_past_end<R: Source + Drop>(
 }
 
 #[test]
-fn nothing_follows_an_end(rt: HostRuntime) -> Result<(), Fail> {
+fn nothing_follows_the_end_of_a_walk(rt: HostRuntime) -> Result<(), Fail> {
     let searcher = AhoCorasick::new(rt.alloc(), &[b"ab"])?;
     let (matches, after) = walk_past_end(&searcher, Input::new(b"abcab"));
     same(&rt, (matches, after.is_none()), (2, true));
+    Ok(())
+}
+
+#[test]
+fn nothing_follows_the_end_of_a_stream(rt: HostRuntime) -> Result<(), Fail> {
+    let searcher = AhoCorasick::new(rt.alloc(), &[b"ab"])?;
     for (good, items) in [(ALWAYS, 2), (3, 2)] {
         let reader = Pieces::new(b"abcab", 1, good);
         let stream = searcher.try_stream_find_iter(rt.alloc(), reader)?;

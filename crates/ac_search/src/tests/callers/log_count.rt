@@ -7,6 +7,7 @@ use crate::tests::devices::{ALWAYS, Pieces};
 use crate::tests::same;
 use crate::{AhoCorasick, MatchKind, Source, StreamError};
 use std::alloc::Global;
+use std::process::Abort;
 use std::test::Fail;
 
 /// How many matches each pattern has in a log, and whether a read of it has failed after them.
@@ -48,6 +49,22 @@ fn counts_of<R: Source>(
     })
 }
 
+/// Compares what is counted in a log, of which each read gives so many bytes until one fails, with what has to be.
+fn compare_counts(
+    rt: &impl Abort,
+    alloc: Global,
+    searcher: &AhoCorasick,
+    mut log: Pieces<'_>,
+    wanted: ([usize; 3], bool),
+) -> Result<(), StreamError>
+    requires { searcher.now.built.kind ≡ MatchKind.Standard }
+{
+    let counts = counts_of(alloc, searcher, &mut log)?;
+    same(rt, counts.matches.as_slice(), wanted.0.as_slice());
+    same(rt, counts.failed, wanted.1);
+    Ok(())
+}
+
 #[test]
 fn labels_are_counted_up_to_a_failure(rt: HostRuntime) -> Result<(), Fail> {
     let searcher = AhoCorasick::new(rt.alloc(), &[b"error", b"warning", b"note"])?;
@@ -58,13 +75,8 @@ fn labels_are_counted_up_to_a_failure(rt: HostRuntime) -> Result<(), Fail> {
         (1, 5, [1, 0, 0], true),
         (7, 4, [1, 1, 0], true),
     ] {
-        let mut reader = Pieces::new(log, most, good);
-        let counts = counts_of(rt.alloc(), &searcher, &mut reader)?;
-        same(
-            &rt,
-            (counts.matches.as_slice(), counts.failed),
-            (wanted.as_slice(), failed),
-        );
+        let reader = Pieces::new(log, most, good);
+        compare_counts(&rt, rt.alloc(), &searcher, reader, (wanted, failed))?;
     }
     Ok(())
 }

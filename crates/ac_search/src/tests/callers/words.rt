@@ -1,7 +1,7 @@
 //! A caller that slices a text at the matches of literal words.
-use crate::laws::{answers_cut_no_character, words_are_texts};
-use crate::tests::same;
-use crate::{AhoCorasick, BuildError, Input};
+use crate::laws::words_are_texts;
+use crate::tests::{parts_of, same};
+use crate::{AhoCorasick, BuildError};
 use std::alloc::Global;
 use std::test::Fail;
 
@@ -9,14 +9,8 @@ use std::test::Fail;
 fn words_in<'t>(alloc: Global, text: &'t str) -> Result<Vec<&'t str>, BuildError> {
     let words: &[&[u8]] = &[b"error", b"warn"];
     let searcher = AhoCorasick::new(alloc, words)?;
-    let input = Input::of_text(text);
-    let mut found = Vec::new(alloc);
     words_are_texts(&searcher);
-    answers_cut_no_character(&searcher, input);
-    for m in searcher.find_iter(input) {
-        found.push(&text[m.range()])?;
-    }
-    Ok(found)
+    Ok(parts_of(alloc, &searcher, text)?)
 }
 
 #[test]

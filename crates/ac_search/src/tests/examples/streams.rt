@@ -16,12 +16,32 @@ fn streams_are_searched(rt: HostRuntime) -> Result<(), Fail> {
 }
 
 #[test]
+fn streams_that_may_be_refused_are_searched(rt: HostRuntime) -> Result<(), Fail> {
+    let alloc = rt.alloc();
+    let searcher = AhoCorasick::new(alloc, &[b"secret".as_slice(), b"password"])?;
+    let mut ends = Vec::new(alloc);
+    for found in searcher.try_stream_find_iter(alloc, Bytes::new(b"a secret password"))? {
+        ends.push(found?.end())?;
+    }
+    assert_eq!(rt; ends.as_slice(), [8, 17].as_slice());
+    Ok(())
+}
+
+#[test]
 fn stream_iterators(rt: HostRuntime) -> Result<(), Fail> {
     let alloc = rt.alloc();
     let searcher = AhoCorasick::new(alloc, &[b"append", b"app"])?;
     let mut matches = searcher.stream_find_iter(alloc, Bytes::new(b"append the app"))?;
     assert_eq!(rt; (matches.buffer_len(), matches.kept_len()), (65_536, 0));
     assert_eq!(rt; matches.next_read(), None); // nothing was read yet
+    Ok(())
+}
+
+#[test]
+fn stream_iterators_give_each_match(rt: HostRuntime) -> Result<(), Fail> {
+    let alloc = rt.alloc();
+    let searcher = AhoCorasick::new(alloc, &[b"append", b"app"])?;
+    let mut matches = searcher.stream_find_iter(alloc, Bytes::new(b"append the app"))?;
     assert_eq!(rt; matches.next().transpose()?, Some(Match::must(1, 0..3)));
     assert_eq!(rt; matches.kept_len(), 11); // all that was read from the end of the match on
     assert_eq!(rt; matches.next_read(), Some(Match::must(1, 11..14)));

@@ -1,7 +1,0 @@
--- The matches still to come cut no character.
-use Rattle.std.specs.List.{AllByRecursion}
-use Rattle.ac_search.specs.Built.{IsBetweenCharacters}
-use Rattle.ac_search.proofs.tests.callers.words.words_in.Given as goal
-
-abbrev pub invariant-loop-m : goal.invariant-loop-m
-invariant-loop-m l = AllByRecursion (IsBetweenCharacters l.text) l.m-iterator.rest
