@@ -1,10 +1,7 @@
 pub mod Assembled
 pub mod ClassWords
 pub mod Decoding
-pub mod DfaNumbering
-pub mod DfaPlaces
 pub mod EdgeTargets
-pub mod EngineCommits
 pub mod Filled
 pub mod Follow
 pub mod InnerStates
@@ -14,7 +11,6 @@ pub mod Laying
 pub mod Listing
 pub mod MatchCounts
 pub mod MatchWords
-pub mod NodeBytes
 pub mod NodeLengths
 pub mod Numbered
 pub mod Numbers
@@ -22,9 +18,7 @@ pub mod OneRow
 pub mod Owning
 pub mod PackedBuilding
 pub mod PackedBuilt
-pub mod PackedNumbering
 pub mod PackedNumbers
-pub mod PackedPlaces
 pub mod PackedStates
 pub mod PackedSteps
 pub mod PackedSums
@@ -34,7 +28,6 @@ pub mod PlanSums
 pub mod PushedStates
 pub mod Pushing
 pub mod PushingClasses
-pub mod Renumbered
 pub mod RowByRow
 pub mod RowLists
 pub mod Setting

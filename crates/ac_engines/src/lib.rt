@@ -2,7 +2,6 @@
 #![tactic(auto)]
 
 mod classes;
-mod commits;
 pub mod dfa;
 mod matches;
 pub mod nfa;

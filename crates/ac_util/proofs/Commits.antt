@@ -48,7 +48,7 @@ last_end-outward m (n ∷ ns) = on n ns
     on n (k ∷ ns) = on k ns
 
 -- places that are counted from one place and then from another
-pub map-outward : (a b : ℕ) (ms : List Occurrence) → map (outward a) (map (outward b) ms) ≡ map (outward (a + b)) ms
+map-outward : (a b : ℕ) (ms : List Occurrence) → map (outward a) (map (outward b) ms) ≡ map (outward (a + b)) ms
 map-outward a b [] = refl
 map-outward a b (m ∷ ms) = search (rules, same_occurrence, map-outward a b ms)
 
@@ -117,7 +117,7 @@ module _ (kind : MatchKind) (patterns : List (List ℕ)) (leftmost : is_leftmost
           ∙ sym (drop-drop since-is.0 (last_end ms) w) ∙ since-is.1.is
 
       -- the walk of what follows the matches before begins with it, whatever follows
-      abbrev pub IsFinal : Type 0
+      abbrev IsFinal : Type 0
       IsFinal = (q : Search) (y : List ℕ) → IsSearchFor patterns q → text q ≡ since ++ y → Follows y
           → walk kind q ≡ outward q.low (outward since-is.0 m) ∷ walk kind (from q (q.low + (since-is.0 + m.end)))
 

@@ -24,20 +24,18 @@ module _ (kind : MatchKind) (patterns : List (List ℕ)) (leftmost : is_leftmost
   picked-within u m picked =
       let ends = Stands-end patterns No u m.pattern m.start picked.stands in let long = picked.as_long in omega arith
 
-  -- where the pick ends with the node, nothing is left after it
-  pub node-ends : (u : List ℕ) (i : ℕ) (ends : EndsWithPick kind patterns leftmost u i)
-      → NodeCommits kind patterns u Anything (standing_at patterns i ends.start) [] []
-  node-ends u i ends = record {
-    picked = ends.picked;
-    rest = subst (λ (w : List ℕ). Commits kind patterns w Anything [] [])
-        (sym (ap (λ (k : ℕ). drop k u) ends.whole ∙ drop-length u)) (commits-nil kind patterns leftmost some);
-  }
-
-  -- so it is of a node with matches, of which the first is picked
+  -- of a node with matches the first is picked, and nothing is left after it
   pub node-matches : (u : List ℕ) (i : ℕ) (rest : List ℕ) → matches kind patterns No (Some u) ≡ i ∷ rest
       → (start : ℕ) × NodeCommits kind patterns u Anything (standing_at patterns i start) [] []
   node-matches u i rest e =
-      let ends = match-picked kind patterns leftmost u i rest e in (ends.start, node-ends u i ends)
+      let ends = match-picked kind patterns leftmost u i rest e in (
+        ends.start,
+        record {
+          picked = ends.picked;
+          rest = subst (λ (w : List ℕ). Commits kind patterns w Anything [] [])
+              (sym (ap (λ (k : ℕ). drop k u) ends.whole ∙ drop-length u)) (commits-nil kind patterns leftmost some);
+        },
+      )
 
   module _ (u : List ℕ) (b : ℕ) (m : Occurrence) (ms : List Occurrence) (v : List ℕ) where
     -- a byte that leads on from v, and to no match from u
@@ -64,22 +62,21 @@ module _ (kind : MatchKind) (patterns : List (List ℕ)) (leftmost : is_leftmost
             (final-dead kind patterns leftmost some (drop m.end u) ms v n next.picked b c.rest dead) ns x next.rest;
       }
 
-  -- the node where a walk then stands is no longer than what follows the pick
-  pub node-shorter : (u : List ℕ) (m : Occurrence) (ms : List Occurrence) (v : List ℕ) (Follows : List ℕ → Type 0)
-      → NodeCommits kind patterns u Follows m ms v → length v ≤ length u - m.end
-  node-shorter u m ms v Follows c =
-      let rest = reached-rest kind patterns (drop (last_end ms) (drop m.end u)) v c.rest.stands in
-      let long = rest.1.long in let first = length-drop (last_end ms) (drop m.end u) in let second = length-drop m.end u in
-      omega arith
-
   module _ (u : List ℕ) (m : Occurrence) (ms : List Occurrence) (v : List ℕ) (c : NodeCommits kind patterns u Anything m ms v) where
+    -- the node where a walk then stands is no longer than what follows the pick
+    pub node-shorter : length v ≤ length u - m.end
+    node-shorter =
+        let rest = reached-rest kind patterns (drop (last_end ms) (drop m.end u)) v c.rest.stands in
+        let long = rest.1.long in let first = length-drop (last_end ms) (drop m.end u) in let second = length-drop m.end u in
+        omega arith
+
     -- so a step to the dead node, and what that node's length is worth, are paid by the length of this one and one look more
     module _ (b : ℕ) (some-bytes : m.start < m.end) (dead : step kind patterns No (Some u) b ≡ None) where
       looks-paid : looks kind patterns No (Some u) b + length v ≤ length u + 1
       looks-paid =
           let paid = dead-paid kind patterns leftmost b (length u - m.end) (length u) u (omega arith)
           (pick-before kind patterns leftmost u m c.picked some-bytes) dead in
-          let short = node-shorter u m ms v Anything c in omega arith
+          let short = node-shorter in omega arith
 
       pub node-paid : (most : ℕ) → looks_by most kind patterns No (Some u) b + credit most (Some v) ≤ credit most (Some u) + 1
       node-paid most = by (most == 1) refl
