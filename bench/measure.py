@@ -9,6 +9,7 @@ import collections
 import ctypes
 import datetime
 import hashlib
+import itertools
 import math
 import os
 import shutil
@@ -380,15 +381,30 @@ class Bench:
             self.grow("patterns: " + what % sizes[-1], [self.step(patterns) for patterns in words], self.refused)
 
     def grow_matches(self):
-        """Prints what doubled matches do to a listing, and what a leftmost walk does that reads again."""
+        """Prints what doubled matches do to a listing."""
         hay = self.cut("mass", self.size // 80)
         words = [self.made("as-%d" % n, ("a" * k for k in range(1, n + 1))) for n in (4, 8, 16, 32)]
         self.grow("matches: overlap std, from a to 32 a's, in %s MB of a's" % number(self.size / 8e7),
                   [self.step(patterns, hay, "overlap") for patterns in words], empty)
-        hay = self.cut("mass", self.size // 160)
-        words = [self.made("again-%d" % n, ["a", "a" * n + "b"]) for n in (125, 250, 500, 1000)]
-        self.grow("length: walk longest, a, and to 1000 a's and a b, in %s MB of a's" % number(self.size / 16e7),
-                  [self.step(patterns, hay, "walk", "longest") for patterns in words], empty)
+
+    def lengths(self):
+        """Prints what a longer pattern does to a leftmost search, and to a Standard one, beside another program."""
+        hay, lengths = self.cut("mass", self.size // 16), (125, 250, 500, 1000)
+        words = [self.made("again-%d" % n, ["a", "a" * n + "b"]) for n in lengths]
+        print("### Length: the patterns a, and so many a's and a b, over %s MB of a's, ms\n" % number(self.size / 16e6))
+        print_row(["Program", "search", "engine"] + [str(n) for n in lengths])
+        print("|---|---|---|" + "---:|" * len(lengths))
+        programs = [("acs", self.acs)] + ([("the other", self.other)] if self.other else [])
+        for name, acs in programs:
+            for mode, kind in itertools.product(("walk", "stream"), ("std", "longest")):
+                for engine in ENGINES[:3]:
+                    progress("lengths: %s, %s %s %s" % (name, mode, kind, engine))
+                    commands = {n: self.search(engine, patterns, hay, mode, kind, acs=acs)
+                                for n, patterns in zip(lengths, words)}
+                    if all(run(it).status in (0, 1) for it in commands.values()):
+                        best = best_of(commands, self.times)
+                        print_row([name, mode + " " + kind, engine] + [number(best[n].seconds * 1e3) for n in lengths])
+        print()
 
     def doubled(self, most):
         """Returns four numbers, each twice the one before, up to the greatest."""
@@ -462,7 +478,8 @@ def options():
     parser.add_argument("--built-from", help="what it was built from, to be printed")
     parser.add_argument("--sets", default=USUAL_SETS, help="names of sets, with * for anything, and commas between")
     parser.add_argument("--parts", default="start_up,sets,builds,kinds,skips,growth", help="which tables to print")
-    parser.add_argument("--beside", help="another program with the same command line, for one more table, `beside`")
+    parser.add_argument("--beside", help="another program with the same command line, for one more table, `beside`, "
+                        "or for more rows of `lengths`")
     parser.add_argument("--mb", type=int, default=16, help="how many million bytes a haystack has (16)")
     parser.add_argument("--times", type=int, default=5, help="of how many runs the best counts (5)")
     parser.add_argument("--cpu", type=int, help="the core that all runs are held to")
@@ -473,7 +490,7 @@ def options():
         parser.error("no such program: " + asked.acs)
     if asked.beside:
         asked.beside = os.path.abspath(asked.beside)
-        asked.parts += ",beside"
+        asked.parts += "" if "lengths" in asked.parts else ",beside"
     if asked.quick:
         asked.mb, asked.times = 1, 2
         asked.sets = "prose-10-*,prose-1000-long-rare,links-1-*,mass-10-*" if asked.sets == USUAL_SETS else asked.sets

@@ -23,7 +23,7 @@ pub skip-some : {wants_prefilter : Bool} {built : Built} {skip : Skip} → Skips
 skip-some skips = grind (arith, common_steps)
 
 -- each pattern of a list of one takes part
-one-takes_part : (kind : MatchKind) (p : List ℕ) (n : ℕ) → n < 1 → participates kind (p ∷ []) n ≡ true
+pub one-takes_part : (kind : MatchKind) (p : List ℕ) (n : ℕ) → n < 1 → participates kind (p ∷ []) n ≡ true
 one-takes_part kind p zero within = takes_part (p ∷ []) kind zero refl
 one-takes_part kind p (suc n) within = absurd (omega arith)
 

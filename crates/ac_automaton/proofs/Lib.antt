@@ -1,7 +1,13 @@
+pub mod AliveSteps
 pub mod Branched
 pub mod Branching
+pub mod Chains
 pub mod Child
 pub mod ChildFails
+pub mod CommitAdding
+pub mod CommitSearch
+pub mod CommitSteps
+pub mod Committing
 pub mod Counting
 pub mod Due
 pub mod Exchanged
@@ -22,8 +28,15 @@ pub mod ListLoop
 mod ListSteps
 pub mod ListsOf
 pub mod Misses
+pub mod OnwardGives
+pub mod OnwardGoes
+pub mod OnwardNeedle
+pub mod OnwardReads
+pub mod OnwardSkips
+pub mod OnwardSteps
 pub mod Orders
 pub mod Overlapping
+pub mod PastGives
 pub mod PatternHeads
 pub mod Places
 pub mod Prefixes
@@ -40,10 +53,12 @@ pub mod Starting
 pub mod StateCount
 pub mod StreamEnds
 pub mod StreamExchanging
+pub mod StreamFirst
 pub mod StreamGiving
 pub mod StreamKeeping
 pub mod StreamReserves
 pub mod StreamLoop
+pub mod StreamPast
 pub mod StreamRefusals
 pub mod StreamText
 pub mod StreamFilling
@@ -52,5 +67,7 @@ pub mod StreamTexts
 pub mod Steps
 pub mod TrieStates
 pub mod WalkLoop
+pub mod WalkOnce
 pub mod WalkRuns
+pub mod WholeCommits
 pub mod WholeTries

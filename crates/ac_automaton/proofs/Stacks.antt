@@ -9,10 +9,11 @@ use Rattle.std.proofs.lemmas.List.{get_or-take}
 use Rattle.std.proofs.lemmas.List.Elements.{All-contains}
 use Rattle.std.proofs.lemmas.List.Quantifiers.{all_pairs_push}
 use Rattle.std.proofs.lemmas.Grind.{common_steps}
+use Rattle.ac_util.specs.Commits.{Prefixes}
 use Rattle.ac_automaton.specs.Util.{LeftmostFirst, participants, participates, pattern_of, Standard}
 use Rattle.ac_util.proofs.Lists.{IsIn, IsIn-at, IsIn-map, IsIn-from_map, IsIn-filter, IsIn-from_filter, IsIn-range, IsIn-from_range, IsIn-append_cases, IsIn-append_left, IsIn-append_right, Contains-from_IsIn, IsIn-from_Contains}
 use Rattle.ac_util.proofs.Prefixes.{starts_with-itself}
-use Rattle.ac_util.proofs.Participants.{Prefixes, IsLeader, begins-before, begins-from_Prefixes, leader, leader-least, leader-takes_part}
+use Rattle.ac_util.proofs.Participants.{IsLeader, begins-before, begins-from_Prefixes, leader, leader-least, leader-takes_part}
 use Rattle.ac_automaton.specs.Sorted.{Keyed, Precedes, IsOrder, key_at, numbers}
 use Rattle.ac_automaton.proofs.Places.{place-of, place-read, place-take, read-place, IsIn-take, IsIn-from_take}
 use Rattle.ac_automaton.proofs.Prefixes.{front-between, front-no_less}

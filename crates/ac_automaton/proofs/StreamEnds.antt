@@ -1,8 +1,8 @@
 -- The next match of a stream, or that there is none, once its end was met.
-use Rattle.std.proofs.Common.{◌≡◌, ℕ, ◌≤◌, Bool, List, ◌++◌, length, arith, Option, Some, None, Result, Ok, Err}
+use Rattle.std.proofs.Common.{◌≡◌, ℕ, ◌≤◌, Bool, List, [], ◌++◌, length, sym, subst, arith, Option, Some, None, Result, Ok, Err}
 use Rattle.std.proofs.lemmas.Grind.{common_steps}
-use Rattle.ac_automaton.specs.Util.{Occurrence, Reading, Standard, stream_result, StreamError, usize_max}
-use Rattle.ac_automaton.specs.Prelude.{Ended, EndsNow, Failed, GivesLast, GivesMatch, GivesNone, GoesOnBy, HasGivenSettled, KeepsGiven, Open, Phase, Streaming, StreamsOn}
+use Rattle.ac_automaton.specs.Util.{Occurrence, Reading, ReadsAll, ReadsSome, Standard, stream_result, StreamError, usize_max}
+use Rattle.ac_automaton.specs.Prelude.{Ended, EndsNow, Failed, GivesLast, GivesMatch, GivesNone, GoesOnBy, HasGivenSettled, KeepsGiven, MeetsEnd, Open, Phase, Streaming, StreamsOn}
 use Rattle.ac_automaton.specs.Streams.{GivesNextMatch}
 
 -- the end was met after some bytes more, or before; under Standard all matches were given before it was
@@ -31,3 +31,27 @@ module _ (ends : Bool) (old between new : Streaming) (reader new_reader : Readin
   gives-last None done = none-by old.phase reads (ends-now done)
   gives-last (Some (Ok m)) gives = gives-next m gives
   gives-last (Some (Err e)) never = absurd never
+
+-- some bytes were read, all that is settled of them was given, and then the end was met
+module _ (ends : Bool) (old between searched filled new : Streaming) (reader mid new_reader : Reading) (more : List ℕ)
+    (read : between ≡ record old { bytes = old.bytes ++ more; front = between.front; kept = between.kept })
+    (goes_on : old.phase ≡ Open) (reads : ReadsSome reader mid more) (settled : HasGivenSettled between searched)
+    (met : MeetsEnd ends searched filled mid new_reader) where
+  filled-is : filled ≡ record old { bytes = old.bytes ++ more; front = filled.front; kept = filled.kept; phase = Ended }
+  filled-is = grind (arith, common_steps)
+
+  goes-by : GoesOnBy ends old.phase Ended reader new_reader more
+  goes-by =
+      subst (λ (p : Phase). GoesOnBy ends p Ended reader new_reader more) (sym goes_on)
+      (reads-all reads met.reads)
+    where
+      reads-all : ReadsSome reader mid more → ReadsAll ends mid new_reader [] → ReadsAll ends reader new_reader more
+      reads-all some all = grind (arith, common_steps)
+
+  early : old.built.kind ≡ Standard → old.given ≡ length (stream_result old.built (old.bytes ++ more))
+  early standard = grind (arith, common_steps)
+
+  pub ended-then : length (old.bytes ++ more) ≤ usize_max → KeepsGiven old (old.bytes ++ more)
+      → (result : Option (Result Occurrence StreamError)) → GivesLast filled result new
+      → StreamsOn ends old result new reader new_reader
+  ended-then small keeps = gives-last ends old filled new reader new_reader more filled-is goes-by keeps early small

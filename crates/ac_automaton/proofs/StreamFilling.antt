@@ -1,21 +1,26 @@
 -- The search of a stream: how it begins, how its buffer is filled and makes room, and what is seen then.
-use Rattle.std.proofs.Common.{◌≡◌, ℕ, ◌+◌, ◌-◌, ◌<◌, ◌≤◌, Bool, false, List, [], ◌++◌, length, length-append, length-drop, take, drop, max, inl, inr, refl, ap, sym, ◌∙◌, arith, Some, None, if◌then◌else◌, not, slice_range, rules}
+use Rattle.std.proofs.Common.{◌≡◌, ℕ, ◌+◌, ◌-◌, ◌<◌, ◌≤◌, Bool, true, false, List, [], ◌++◌, length, length-append, length-drop, take, drop, max, inl, inr, refl, ap, sym, subst, ◌∙◌, arith, Some, None, append_assoc, if◌then◌else◌, not, slice_range, rules}
 use Rattle.std.specs.Prelude.{⊤}
 use Rattle.std.proofs.lemmas.List.{append-nil, drop-append-le, drop-drop, length-take-le}
 use Rattle.std.proofs.Math.Seq.{take-add}
 use Rattle.std.proofs.lemmas.Grind.{common_steps}
+use Rattle.ac_util.specs.Commits.{StandsAfter}
 use Rattle.ac_automaton.specs.Util.{buffer_len, Built, from, is_leftmost, IsSettledBy, longest_len, Node, pick, Span, stream_refusal, stream_result, usize_max}
 use Rattle.ac_util.proofs.Longer.{pick-extended}
 use Rattle.ac_util.proofs.Spans.{take_drop_take}
 use Rattle.ac_util.proofs.Walks.{next-none, walk_after-None}
-use Rattle.ac_automaton.specs.Prelude.{Ended, Failed, HasGivenSettled, in_memory, Inside, IsStreaming, most_kept, Open, Phase, Reaches, Scan, initial_stream, stream_from, Streaming}
+use Rattle.ac_automaton.specs.Prelude.{Ended, Failed, HasGivenSettled, in_memory, Inside, IsStreaming, most_kept, Open, Phase, plain_of, Reaches, Scan, initial_stream, StandsPast, stream_from, Streaming}
+use Rattle.ac_util.proofs.Onward.{after-start}
+use Rattle.ac_automaton.specs.Onward.{pending}
 use Rattle.ac_automaton.specs.Streams.{HasGiven}
+use Rattle.ac_automaton.specs.declared.automaton.commits.ChainMatch.{ChainMatch}
+use Rattle.ac_automaton.proofs.OnwardSteps.{on-some}
 use Rattle.ac_automaton.proofs.ReadOn.{at-start}
-use Rattle.ac_automaton.proofs.StreamRefusals.{allowed-some}
+use Rattle.ac_automaton.proofs.StreamRefusals.{allowed-some, past-on}
 use Rattle.ac_automaton.proofs.StreamText.{picked-nothing, scan}
 
 -- a search over a stream of which nothing was read
-module _ (stands : ℕ → Node → Type 0) (built : Built) (allowed : stream_refusal built ≡ None) (start : ℕ)
+module _ (stands : ℕ → Node → Type 0) (chains : List (List ChainMatch)) (built : Built) (allowed : stream_refusal built ≡ None) (start : ℕ)
     (starts : stands start (Some [])) (buffer : List ℕ) (long : length buffer ≡ buffer_len built.patterns)
     (small : length buffer < 9223372036854775808) where
   abbrev scan-begun : Scan
@@ -27,7 +32,7 @@ module _ (stands : ℕ → Node → Type 0) (built : Built) (allowed : stream_re
   nothing-begun : pick built.kind (record (stream_from built [] 0) { high = 0 }) ≡ None
   nothing-begun = picked-nothing stands (λ s. []) built 1 false (allowed-some built allowed) built.kind [] 0
 
-  begun : IsStreaming stands (record {
+  begun : IsStreaming stands chains (record {
     start = start;
     stops = not (is_leftmost built.kind);
     reserve = most_kept built;
@@ -35,7 +40,7 @@ module _ (stands : ℕ → Node → Type 0) (built : Built) (allowed : stream_re
     filled = 0;
     state = start;
     at = 0;
-    picked = None;
+    rest = None;
     begun = 0;
   }) (record (initial_stream built) { buffer = length buffer })
   begun = record {
@@ -50,12 +55,23 @@ module _ (stands : ℕ → Node → Type 0) (built : Built) (allowed : stream_re
     counted = refl;
     small = omega arith;
     holds = refl;
-    searched = record {
+    within = omega arith;
+    read = omega arith;
+    searched = λ standard. record {
       within = omega arith;
       onward = omega arith;
       is_at = at-start scan-begun (in_memory [] whole-begun) 0 starts refl (omega arith);
       picks = sym nothing-begun;
       after = tt;
+    };
+    past = λ first. record {
+      node = [];
+      there = starts;
+      after = λ more last.
+          after-start built.kind (plain_of built) first (on-some built (past-on built allowed first)) (stream_from built more 0)
+          (record { free = refl; ordered = omega arith; inside = omega arith; same = refl });
+      sound = tt;
+      near = tt;
     };
     given = record { matches = []; count = refl; end = refl; last = None; walks = λ more last. refl };
     all = λ ended. absurd (cc);
@@ -70,7 +86,7 @@ module _ (stands : ℕ → Node → Type 0) (built : Built) (allowed : stream_re
   -- given by numbers that are so
   pub streams-begin : (stops : Bool) (reserve' begun' given : ℕ) (bytes : List ℕ) → stops ≡ not (is_leftmost built.kind)
       → reserve' ≡ most_kept built → begun' ≡ 0 → given ≡ 0 → bytes ≡ []
-      → IsStreaming stands (record {
+      → IsStreaming stands chains (record {
         start = start;
         stops = stops;
         reserve = reserve';
@@ -78,7 +94,7 @@ module _ (stands : ℕ → Node → Type 0) (built : Built) (allowed : stream_re
         filled = 0;
         state = start;
         at = 0;
-        picked = None;
+        rest = None;
         begun = begun';
       }) (record (initial_stream built) { bytes = bytes; given = given; buffer = length buffer })
   streams-begin stops reserve' begun' given bytes s r b n none = search (rules, begun)
@@ -98,7 +114,8 @@ module _ (stands : ℕ → Node → Type 0) (built : Built) (bytes more : List �
       → HasGiven phase built (bytes ++ more) given begun
   given-longer phase given goes_on g = grind (arith, common_steps)
 
-module _ (stands : ℕ → Node → Type 0) (i : Inside) (v : Streaming) (inv : IsStreaming stands i v) where
+module _ (stands : ℕ → Node → Type 0) (chains : List (List ChainMatch)) (i : Inside) (v : Streaming)
+    (inv : IsStreaming stands chains i v) where
   -- the matches that were given stay as they are, whichever bytes follow
   pub given-stays : (more : List ℕ) → (v.phase ≡ Ended → ⊥)
       → take v.given (stream_result v.built (v.bytes ++ more)) ≡ take v.given (stream_result v.built v.bytes)
@@ -111,17 +128,46 @@ module _ (stands : ℕ → Node → Type 0) (i : Inside) (v : Streaming) (inv : 
     goes-on ended = absurd (let no = sym open' ∙ ended in cc)
 
     back-open : v.kept ≤ max i.begun (v.front + i.at - i.reserve)
-    back-open = elim inv.back [ inl back ↦ back | inr ended ↦ absurd (goes-on ended.0) ]
+    back-open = elim inv.back [ inl back ↦ back | inr over ↦ absurd (goes-on over.ended) ]
+
+    -- a leftmost search stands where it did
+    past-then : (phase : Phase) (size : ℕ) → is_leftmost v.built.kind ≡ true
+        → StandsPast stands chains (record i { buffer = buffer }) (record v { phase = phase; buffer = size })
+    past-then phase size first =
+        let p = inv.past first in
+        record {
+          node = p.node;
+          there = p.there;
+          after = λ more last. p.after more (λ ended. absurd (goes-on ended));
+          sound = p.sound;
+          near = p.near;
+        }
+
+    -- in more bytes too
+    past-longer : (n size : ℕ) (more : List ℕ) → is_leftmost v.built.kind ≡ true
+        → StandsPast stands chains (record i { buffer = buffer; filled = n }) (record v { bytes = v.bytes ++ more; buffer = size })
+    past-longer n size more first =
+        let p = inv.past first in
+        record {
+          node = p.node;
+          there = p.there;
+          after = λ others last.
+              subst (λ (bs : List ℕ). StandsAfter v.built.kind (plain_of v.built) (stream_from v.built bs i.begun)
+              (pending v.built chains i.rest) p.node (v.front + i.at)) (sym (append_assoc v.bytes more others))
+              (p.after (more ++ others) (λ ended. absurd (goes-on ended)));
+          sound = p.sound;
+          near = p.near;
+        }
 
     -- and no bytes came: the end was met, or there was a failure
     module _ (settled : HasGivenSettled v v) where
-      pub streams-ended : IsStreaming stands (record i { buffer = buffer })
+      pub streams-ended : IsStreaming stands chains (record i { buffer = buffer })
           (record v { phase = Ended; buffer = length buffer })
-      streams-ended = search rules
+      streams-ended = search (rules, past-then Ended (length buffer), back-open)
 
-      pub streams-failed : IsStreaming stands (record i { buffer = buffer })
+      pub streams-failed : IsStreaming stands chains (record i { buffer = buffer })
           (record v { phase = Failed; buffer = length buffer })
-      streams-failed = search rules
+      streams-failed = search (rules, past-then Failed (length buffer), back-open)
 
     -- and some of that is bytes more
     module _ (n : ℕ) (more : List ℕ) (reads : more ≡ take n (drop i.filled buffer)) (room : n ≤ length (drop i.filled buffer))
@@ -129,12 +175,12 @@ module _ (stands : ℕ → Node → Type 0) (i : Inside) (v : Streaming) (inv : 
       size-more : length more ≡ n
       size-more = ap length reads ∙ length-take-le n (drop i.filled buffer) room
 
-      filled : IsStreaming stands (record i { buffer = buffer; filled = i.filled + n })
+      filled : IsStreaming stands chains (record i { buffer = buffer; filled = i.filled + n })
           (record v { bytes = v.bytes ++ more; buffer = length buffer })
       filled =
           let size = size-more in let c = inv.counted in let l = length-append v.bytes more in
-          let d = length-drop i.filled buffer in let w = inv.searched.within in let k = inv.kept_within in
-          let f = inv.filled in let inside = inv.searched.is_at.inside in
+          let d = length-drop i.filled buffer in let w = inv.within in let k = inv.kept_within in
+          let f = inv.filled in
           record {
             allowed = inv.allowed;
             starts = inv.starts;
@@ -150,15 +196,20 @@ module _ (stands : ℕ → Node → Type 0) (i : Inside) (v : Streaming) (inv : 
                 ∙ ap (λ (xs : List ℕ). xs ++ take n (drop i.filled buffer)) (keeps ∙ inv.holds)
                 ∙ ap (λ (xs : List ℕ). drop v.front v.bytes ++ xs) (sym reads)
                 ∙ sym (drop-append-le v.front v.bytes more (omega arith));
-            searched = record {
-              within = omega arith;
-              onward = omega arith;
-              is_at = reaches-longer stands v.built v.bytes more i.begun i.state (v.front + i.at) inv.searched.is_at;
-              picks = inv.searched.picks
-                  ∙ sym (pick-extended (record (stream_from v.built v.bytes i.begun) { high = v.front + i.at }) more
-                  inv.searched.is_at.onward inside v.built.kind);
-              after = inv.searched.after;
-            };
+            within = omega arith;
+            read = inv.read;
+            searched = λ standard.
+                let on = inv.searched standard in
+                record {
+                  within = omega arith;
+                  onward = omega arith;
+                  is_at = reaches-longer stands v.built v.bytes more i.begun i.state (v.front + i.at) on.is_at;
+                  picks = on.picks
+                      ∙ sym (pick-extended (record (stream_from v.built v.bytes i.begun) { high = v.front + i.at }) more
+                      on.is_at.onward on.is_at.inside v.built.kind);
+                  after = on.after;
+                };
+            past = past-longer (i.filled + n) (length buffer) more;
             given = given-longer stands v.built v.bytes more i.begun v.phase v.given goes-on inv.given;
             all = λ ended. absurd (goes-on ended);
             failed = λ failed. absurd (let no = sym open' ∙ failed in cc);
@@ -169,9 +220,72 @@ module _ (stands : ℕ → Node → Type 0) (i : Inside) (v : Streaming) (inv : 
             back = inl back-open;
           }
 
-      pub streams-filled : IsStreaming stands (record i { buffer = buffer; filled = i.filled + n })
+      pub streams-filled : IsStreaming stands chains (record i { buffer = buffer; filled = i.filled + n })
           (record v { bytes = bytes; buffer = length buffer })
       streams-filled = search (rules, filled)
+
+  -- the bytes that are kept were moved to the front of the buffer
+  module _ (open' : v.phase ≡ Open) (buffer : List ℕ) (long : length buffer ≡ length i.buffer)
+      (holds : take (i.filled - (v.kept - v.front)) buffer ≡ drop v.kept v.bytes) where
+    back-there : v.kept ≤ max i.begun (v.front + i.at - i.reserve)
+    back-there = elim inv.back [ inl back ↦ back | inr over ↦ absurd (let no = sym open' ∙ over.ended in cc) ]
+
+    -- the search stands where it did
+    place-there : v.front + i.at ≡ v.kept + (i.at - (v.kept - v.front))
+    place-there = let b = back-there in let f = inv.in_buffer in let r = inv.read in omega arith
+
+    abbrev at-there : ℕ
+    at-there = i.at - (v.kept - v.front)
+
+    pub streams-moved : IsStreaming stands chains (record i { buffer = buffer; filled = i.filled - (v.kept - v.front); at = at-there })
+        (record v { front = v.kept; buffer = length buffer })
+    streams-moved =
+        let place = place-there in let c = inv.counted in let f = inv.in_buffer in let k = inv.kept_within in
+        let w = inv.within in let n = inv.filled in
+        record {
+          allowed = inv.allowed;
+          starts = inv.starts;
+          stops = inv.stops;
+          reserve = inv.reserve;
+          size = refl;
+          long = long ∙ inv.long;
+          fits = (let r = inv.fits in omega arith);
+          filled = omega arith;
+          counted = omega arith;
+          small = inv.small;
+          holds = holds;
+          within = omega arith;
+          read = (let r = inv.read in omega arith);
+          searched = λ standard.
+              let on = inv.searched standard in
+              record {
+                within = omega arith;
+                onward = omega arith;
+                is_at = subst (λ (n : ℕ). Reaches stands v.built.kind (stream_from v.built v.bytes i.begun) i.state n) place on.is_at;
+                picks = on.picks
+                    ∙ ap (λ (n : ℕ). pick v.built.kind (record (stream_from v.built v.bytes i.begun) { high = n })) place;
+                after = tt;
+              };
+          past = λ first.
+              let p = inv.past first in
+              record {
+                node = p.node;
+                there = p.there;
+                after = λ more last.
+                    subst (λ (n : ℕ). StandsAfter v.built.kind (plain_of v.built) (stream_from v.built (v.bytes ++ more) i.begun)
+                    (pending v.built chains i.rest) p.node n) place (p.after more last);
+                sound = p.sound;
+                near = p.near;
+              };
+          given = inv.given;
+          all = inv.all;
+          failed = λ failed. absurd (let no = sym open' ∙ failed in cc);
+          few = inv.few;
+          in_buffer = omega arith;
+          after = inv.after;
+          kept_within = inv.kept_within;
+          back = inl (let b = back-there in omega arith);
+        }
 
 -- where all matches that are settled were given, they are given once there is room
 pub settled-as : (old mid inside : Streaming) → inside ≡ mid → mid ≡ record old { front = mid.front }

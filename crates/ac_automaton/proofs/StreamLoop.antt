@@ -1,4 +1,4 @@
--- The search of a stream reads on from where it stands: what it picks then.
+-- The search of a stream under Standard reads on from where it stands: what it picks then.
 use Rattle.std.proofs.Common.{◌≡◌, ℕ, ◌+◌, ◌-◌, ◌<◌, ◌≤◌, Bool, true, false, List, length, take, drop, max, inl, inr, refl, ap, sym, subst, ◌∙◌, arith, Option, Some, None, IfSome, not, rules}
 use Rattle.std.proofs.lemmas.Bool.{cases_lt, false≢true}
 use Rattle.std.proofs.lemmas.List.{take-append-drop}
@@ -8,6 +8,7 @@ use Rattle.ac_util.proofs.Picks.{pick-from_IsPick, pick-IsPick}
 use Rattle.ac_util.proofs.Shortest.{longest-most}
 use Rattle.ac_util.proofs.Walks.{pick-Occurs}
 use Rattle.ac_automaton.specs.Prelude.{Cursor, HasPicked, HasReadOn, Inside, IsStreaming, LeadsTo, MayPick, past, PicksOn, ScannerView, ScanText, search_through, stream_from, Streaming}
+use Rattle.ac_automaton.specs.declared.automaton.commits.ChainMatch.{ChainMatch}
 use Rattle.ac_automaton.proofs.ReadOn.{past-is}
 use Rattle.ac_automaton.proofs.StreamText.{scan}
 use Rattle.ac_automaton.proofs.StreamReserves.{most-back}
@@ -42,9 +43,10 @@ pick-earlier kind q high m within ends picked =
     wider : (o : Occurrence) → Occurs (record q { high = high }) o → Occurs q o
     wider o occurs = grind (arith, common_steps)
 
--- a search over a stream as it is kept between two calls
-module _ (stands : ℕ → Node → Type 0) (listed : ℕ → List ℕ) (most : ℕ) (wants_prefilter : Bool) (i : Inside) (v : Streaming)
-    (inv : IsStreaming stands i v) where
+-- a search over a stream under Standard as it is kept between two calls
+module _ (stands : ℕ → Node → Type 0) (listed : ℕ → List ℕ) (most : ℕ) (wants_prefilter : Bool)
+    (chains : List (List ChainMatch)) (i : Inside) (v : Streaming) (inv : IsStreaming stands chains i v)
+    (standard : v.built.kind ≡ Standard) where
   -- its scanner, over the bytes of the buffer that are filled
   abbrev pub stream_scanner : ScannerView
   stream_scanner = record {
@@ -79,20 +81,23 @@ module _ (stands : ℕ → Node → Type 0) (listed : ℕ → List ℕ) (most : 
       ≡ pick v.built.kind (up_to (v.front + at))
   picks-are at = grind (arith, common_steps, place-is at)
 
+  searched : HasReadOn stands i v i.state i.at None
+  searched = inv.searched standard
+
   -- what it has read on is what its scanner has come to
-  picked-by : HasPicked stream_scanner.scan i.stops text-read (record { state = i.state; at = i.at }) i.picked
-  picked-by = grind (arith, common_steps, place-is i.at, picks-are i.at)
+  picked-by : HasPicked stream_scanner.scan i.stops text-read (record { state = i.state; at = i.at }) None
+  picked-by = grind (arith, common_steps, searched, place-is i.at, picks-are i.at)
 
   module _ {tape : Taped} (holds : tape.bytes ≡ take i.filled i.buffer) (fresh : tape.place ≡ 0) where
     leads : LeadsTo stream_scanner tape text-read
     leads = search rules
 
     -- it may go on
-    pub may-search : MayPick stream_scanner i.stops tape (record { state = i.state; at = i.at }) i.picked
+    pub may-search : MayPick stream_scanner i.stops tape (record { state = i.state; at = i.at }) None
     may-search = search (rules, leads, leftmost-by, picked-by)
 
     module _ {there : Cursor} {counts new_counts : Counts} {new_tape : Taped} {picked : Option Occurrence}
-        (on : PicksOn stream_scanner i.stops (record { state = i.state; at = i.at }) tape counts i.picked there new_tape new_counts
+        (on : PicksOn stream_scanner i.stops (record { state = i.state; at = i.at }) tape counts None there new_tape new_counts
         picked) where
       come : HasPicked stream_scanner.scan i.stops text-read there picked
       come = on.picks text-read leads picked-by
@@ -112,12 +117,12 @@ module _ (stands : ℕ → Node → Type 0) (listed : ℕ → List ℕ) (most : 
               | inl back ↦ reaches-back back
                   (subst (λ (n : ℕ). longest_len v.built.patterns ≤ n + 1) (sym inv.reserve) (most-back v.built))
                   (omega arith) (omega arith)
-              | inr ended ↦ let filled = ended.1 in let within = on.within in absurd (omega arith)
+              | inr over ↦ let filled = over.whole in let within = on.within in absurd (omega arith)
             ]
         | inr before ↦
             let same = pick-earlier v.built.kind (up_to (v.front + there.at)) (v.front + i.at) m
             (let onward = on.onward in omega arith) before (sym picks ∙ is) in
-            subst (λ (r : Option Occurrence). IfSome r (λ m. v.kept ≤ m.start)) (inv.searched.picks ∙ same) inv.searched.after
+            subst (λ (r : Option Occurrence). IfSome r (λ m. v.kept ≤ m.start)) (searched.picks ∙ same) searched.after
       ]
         where
           reaches-back : v.kept ≤ max i.begun (v.front + i.at - i.reserve)

@@ -1,12 +1,17 @@
 -- The search of a stream from a place on: its automaton, and the nodes that it reaches.
-use Rattle.std.proofs.Common.{◌≡◌, ℕ, ◌≤◌, Bool, false, List, ◌++◌, length, take, refl, arith, Option, Some, None}
+use Rattle.std.proofs.Common.{◌≡◌, ℕ, Bool, false, List, take, refl, arith, Option, Some, None}
 use Rattle.std.proofs.lemmas.Grind.{common_steps}
 use Rattle.ac_automaton.specs.Util.{input_of, whole_input, Built, has_empty, Input, MatchKind, No, Node, Occurrence, pick, Search, Taped}
 use Rattle.ac_util.proofs.Shortest.{none-empty}
 use Rattle.ac_util.proofs.Walks.{pick-Occurs}
 use Rattle.ac_automaton.specs.Prelude.{node_at, Reaches, Scan, stream_from}
 
--- a tape that was opened over the bytes of a buffer that are filled has these bytes
+-- a tape that was opened over some bytes has them
+pub tape-of : (bytes : List ℕ) (input : Input) (tape : Taped) → input_of input ≡ whole_input bytes
+    → tape ≡ record { bytes = input.haystack.now; place = 0 } → tape.bytes ≡ bytes
+tape-of bytes input tape whole opens = grind (arith, common_steps)
+
+-- so has one that was opened over those of a buffer that are filled
 pub tape-is : (buffer shown : List ℕ) (filled : ℕ) (input : Input) (tape : Taped) → shown ≡ buffer
     → input_of input ≡ whole_input (take filled shown) → tape ≡ record { bytes = input.haystack.now; place = 0 }
     → tape.bytes ≡ take filled buffer
@@ -40,8 +45,3 @@ module _ (stands : ℕ → Node → Type 0) (listed : ℕ → List ℕ) (built :
           let long = none-empty built.patterns m.pattern some o.numbered in
           let a = o.from_low in let b = o.as_long in let c = o.to_high in
           absurd (omega arith)
-
--- what was reached in some bytes is reached in more
-pub node-longer : (built : Built) (bytes more : List ℕ) (begun k : ℕ) → begun ≤ k → k ≤ length bytes
-    → node_at built.kind (stream_from built (bytes ++ more) begun) k ≡ node_at built.kind (stream_from built bytes begun) k
-node-longer built bytes more begun k ordered within = grind (arith, common_steps)

@@ -1,13 +1,13 @@
 -- A walk that finds match after match: what it has read and counted.
-use Rattle.std.proofs.Common.{◌≡◌, ℕ, ◌+◌, ◌-◌, ◌<◌, ◌≤◌, true, [], ◌∷◌, inl, inr, refl, sym, arith, Option, Some, None, IfSome, MatchOption, ◌==◌, max, min, rules}
-use Rattle.std.proofs.lemmas.Bool.{and_parts, cases_Bool, eqb-true}
+use Rattle.std.proofs.Common.{◌≡◌, ℕ, ◌+◌, ◌-◌, ◌<◌, ◌≤◌, true, false, ◌∙◌, [], ◌∷◌, inl, inr, refl, sym, arith, Option, Some, None, IfSome, MatchOption, ◌==◌, max, min, rules}
+use Rattle.std.proofs.lemmas.Bool.{and_parts, cases_Bool, eqb-true, false≢true}
 use Rattle.std.proofs.lemmas.Option.{IfSome_then}
 use Rattle.std.proofs.lemmas.Grind.{common_steps}
 use Rattle.ac_automaton.specs.Util.{from, LeftmostFirst, LeftmostLongest, MatchKind, next_match, Occurrence, pick, repeats, Search, shortest_len, Standard, walk_after}
 use Rattle.ac_util.proofs.OneLonger.{none-past_end}
 use Rattle.ac_util.proofs.Shortest.{shortest-least}
 use Rattle.ac_util.proofs.Walks.{pick-in_span, pick-Occurs, walk_after-None, walk_after-Some}
-use Rattle.ac_automaton.specs.Prelude.{after, Finds, GoesOn, HasFound, HasSearched, IsUnderWay, kept_place, last_after, Picking, Walking, Work}
+use Rattle.ac_automaton.specs.Prelude.{after, Finds, GoesOn, HasFound, HasSearched, IsByFinds, IsUnderWay, kept_place, last_after, Picking, reads_past, Walking, Work}
 
 -- a find of a walk reads from no place past the one read up to, and under Standard from just there
 kept : (order : MatchKind) (place : ℕ)
@@ -110,7 +110,7 @@ under_way-found {walking = walking} {r = Some m} way found =
     })
 
 -- a walk gives its first match, or has none: then a walk past the end of its span has none either
-gives : (order : MatchKind) (q : Search) (last : Option ℕ) (r : Option Occurrence) → r ≡ next_match order q last
+pub gives : (order : MatchKind) (q : Search) (last : Option ℕ) (r : Option Occurrence) → r ≡ next_match order q last
     → MatchOption r
     ((walk_after order q last ≡ []) × (walk_after order (from q (after q.high r)) (last_after last r) ≡ []))
     (λ m. walk_after order q last ≡ m ∷ walk_after order (from q (after q.high r)) (last_after last r))
@@ -120,14 +120,14 @@ gives order q last (Some m) is = walk_after-Some order q last m (sym is)
 -- a walk has gone on and is under way still
 pub record HasGone (walking : Walking) (r : Option Occurrence) (new_walking : Walking) : Type 0 where
   pub goes_on : GoesOn walking r new_walking
-  pub way : IsUnderWay new_walking
+  pub way : IsByFinds new_walking
 
 -- it has gone on where the next match is found by one find or by two
 pub has-gone : {walking : Walking} {work : Work} {r : Option Occurrence} → IsUnderWay walking
     → walking.rest ≡ walk_after walking.picking.order walking.left walking.last
-    → r ≡ next_match walking.picking.order walking.left walking.last → Finds walking work
+    → r ≡ next_match walking.picking.order walking.left walking.last → Finds walking work → reads_past walking ≡ false
     → HasGone walking r (next walking r work)
-has-gone {walking = walking} {work = work} {r = r} way rest is finds =
+has-gone {walking = walking} {work = work} {r = r} way rest is finds by_finds =
     let still : IsUnderWay (next walking r work) =
     elim (cases_Bool (repeats (pick walking.picking.order walking.left) walking.last)) [
       | inl again ↦ let both = rw again at finds in
@@ -138,8 +138,8 @@ has-gone {walking = walking} {work = work} {r = r} way rest is finds =
         gives = rw rest (gives walking.picking.order walking.left walking.last r is);
         next = is;
         same = refl;
-        finds = finds;
-        paid = still.paid;
+        finds = λ _. finds;
+        paid = record { finds = λ _. still.paid; once = λ past. absurd (false≢true (sym by_finds ∙ past)) };
       };
-      way = still;
+      way = record { by_finds = by_finds; under_way = still };
     }

@@ -23,7 +23,7 @@ plain-byte ignores_case (x ∷ text) zero b e = grind (arith, common_steps)
 plain-byte ignores_case (x ∷ text) (suc k) b e = plain-byte ignores_case text k b e
 
 -- and of a plain pattern
-plain-pattern : (ignores_case : Bool) (texts : List (List ℕ)) (n k b : ℕ)
+pub plain-pattern : (ignores_case : Bool) (texts : List (List ℕ)) (n k b : ℕ)
     → slice_get (pattern_of (map (plain ignores_case) texts) n) k ≡ Some b
     → plain_byte ignores_case b ≡ b
 plain-pattern ignores_case [] n k b e = absurd (cc)

@@ -1,7 +1,8 @@
 -- What is seen of an iterator over matches.
-use Rattle.std.specs.Prelude.{◌≡◌, ℕ, ◌+◌, ◌-◌, ◌*◌, ◌<◌, ◌≤◌, Bool, false, length, MatchBool, List, Option, None, Some, IfSome, min}
+use Rattle.std.specs.Prelude.{◌≡◌, ℕ, ◌+◌, ◌-◌, ◌*◌, ◌<◌, ◌≤◌, Bool, false, true, ◌&&◌, nat_lt, length, MatchBool, List, Option, None, Some, IfSome, min}
 use Rattle.std.specs.Iterator.{YieldsFirst}
-use Rattle.ac_automaton.specs.Util.{InputView, Built, from, input_of, LeftmostFirst, LeftmostLongest, MatchKind, may_skip, next_match, Occurrence, pick, repeats, Search, shortest_len, Span, Standard, walk_after}
+use Rattle.ac_util.specs.declared.search.Anchored.{Anchored}
+use Rattle.ac_automaton.specs.Util.{InputView, Built, from, input_of, is_leftmost, LeftmostFirst, LeftmostLongest, MatchKind, may_skip, next_match, No, Occurrence, pick, repeats, Search, shortest_len, Span, Standard, walk_after, Yes}
 use Rattle.ac_automaton.specs.declared.automaton.walk.TapedFinder.{TapedFinder}
 use Rattle.ac_automaton.specs.Finds.{Finding, Picking, picking_of, HasSearched}
 use Rattle.ac_automaton.specs.Scans.{Work, most_looks, nothing_done, search_of, work_of}
@@ -101,12 +102,25 @@ pub record KeepsInput {A M : Type 0} (old new : TapedFinder A M) : Type 0 where
   pub input : new.input ≡ old.input
   pub bytes : new.tape.bytes ≡ old.tape.bytes
 
--- what a walk has counted since it was made: for each byte read it has looked at states at least once and at
+-- whether a search may find matches anywhere in its span
+abbrev pub is_free : Anchored → Bool
+is_free No = true
+is_free Yes = false
+
+-- whether a walk reads on past its matches, so that it reads each byte once: it isn't anchored, it prefers what starts first, and no
+-- pattern is empty
+abbrev pub reads_past_by : MatchKind → Anchored → List (List ℕ) → Bool
+reads_past_by order anchored patterns = is_free anchored && (is_leftmost order && nat_lt 0 (shortest_len patterns))
+
+abbrev pub reads_past : Walking → Bool
+reads_past walking = reads_past_by walking.picking.order walking.left.anchored walking.left.patterns
+
+-- what a walk by finds has counted since it was made: for each byte read it has looked at states at least once and at
 -- most `most` times on the whole, or where it is anchored exactly once; under Standard it has read each byte of
 -- the span at most once and called the prefilter at most as often; where it may not skip it has called no
 -- prefilter; and unless it called one, or some pattern is empty, it has read each byte as far as the end of its
 -- last match
-pub record IsPaid (walking : Walking) : Type 0 where
+pub record IsPaidByFinds (walking : Walking) : Type 0 where
   pub looked : walking.work.counts.reads ≤ walking.work.counts.looks
   pub looks : walking.work.counts.looks ≤ most_looks walking.left.anchored walking.picking.most * walking.work.counts.reads
   pub reads : walking.picking.order ≡ Standard → walking.work.counts.reads ≤ walking.left.high - walking.start
@@ -115,8 +129,25 @@ pub record IsPaid (walking : Walking) : Type 0 where
   pub told : walking.work.counts.calls ≡ 0 → 0 < shortest_len walking.left.patterns
       → IfSome walking.last (λ e. e - walking.start ≤ walking.work.counts.reads)
 
+-- and one that reads on past its matches: it has read each byte of the span at most once, and called the prefilter at most as
+-- often; for each byte read it has looked at states at least once, and at most `most` times, and once for each byte up to the end of
+-- its last match, on the whole
+pub record IsPaidOnce (walking : Walking) : Type 0 where
+  pub looked : walking.work.counts.reads ≤ walking.work.counts.looks
+  pub looks : walking.work.counts.looks
+      ≤ walking.picking.most * walking.work.counts.reads + (min walking.left.low walking.left.high - walking.start)
+  pub reads : walking.work.counts.reads ≤ walking.left.high - walking.start
+  pub calls : walking.work.counts.calls ≤ walking.left.high - walking.start
+  pub quiet : may_skip walking.picking.wants_prefilter walking.left ≡ false → walking.work.counts.calls ≡ 0
+  pub told : walking.work.counts.calls ≡ 0 → IfSome walking.last (λ e. e - walking.start ≤ walking.work.counts.reads)
+
+-- what a walk has counted
+pub record IsPaid (walking : Walking) : Type 0 where
+  pub finds : reads_past walking ≡ false → IsPaidByFinds walking
+  pub once : reads_past walking ≡ true → IsPaidOnce walking
+
 -- a walk has given the first of the matches that were left, or had none, and has gone on: it is the same walk,
--- it made one find or two, and all that it counted is paid
+-- it made one find or two unless it reads on past its matches, and all that it counted is paid
 pub record GoesOn (walking : Walking) (found : Option Occurrence) (new_walking : Walking) : Type 0 where
   pub gives : YieldsFirst (λ (w : Walking). w.rest) walking found new_walking
   pub next : found ≡ next_match walking.picking.order walking.left walking.last
@@ -126,13 +157,13 @@ pub record GoesOn (walking : Walking) (found : Option Occurrence) (new_walking :
     last = last_after walking.last found;
     work = new_walking.work;
   }
-  pub finds : Finds walking new_walking.work
+  pub finds : reads_past walking ≡ false → Finds walking new_walking.work
   pub paid : IsPaid new_walking
 
--- a walk as its iterator keeps it: it has gone as far as the low end of what is left, and under Standard it has
+-- a walk by finds as its iterator keeps it: it has gone as far as the low end of what is left, and under Standard it has
 -- read nothing of that
 pub record IsUnderWay (walking : Walking) : Type 0 where
-  pub paid : IsPaid walking
+  pub paid : IsPaidByFinds walking
   pub onward : walking.start ≤ walking.left.low
   pub legal : walking.left.low ≤ walking.left.high + 1
   pub beyond : IfSome walking.last (λ e. e ≤ walking.left.low)
@@ -143,3 +174,8 @@ pub record IsUnderWay (walking : Walking) : Type 0 where
       → walking.work.counts.calls ≤ min walking.left.low walking.left.high - walking.start
   pub covered : walking.work.counts.calls ≡ 0 → 0 < shortest_len walking.left.patterns
       → walking.left.low ≤ walking.left.high → walking.left.low - walking.start ≤ walking.work.counts.reads
+
+-- a walk by finds that is under way
+pub record IsByFinds (walking : Walking) : Type 0 where
+  pub by_finds : reads_past walking ≡ false
+  pub under_way : IsUnderWay walking

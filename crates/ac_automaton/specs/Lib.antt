@@ -1,10 +1,13 @@
 pub mod Answers
 pub mod Automata
 pub mod Builds
+pub mod Commits
+pub mod Committing
 pub mod Exchanges
 pub mod Finds
 pub mod Growths
 pub mod Iterators
+pub mod Onward
 pub mod Overlaps
 pub mod Prelude
 pub mod Scans

@@ -1,8 +1,15 @@
 -- What is seen of a search over a stream, and what its calls do.
-use Rattle.std.specs.Prelude.{◌≡◌, ◌≢◌, ◌⊎◌, ℕ, ◌+◌, ◌-◌, ◌<◌, ◌≤◌, Bool, not, List, [], ◌++◌, Option, None, Some, IfSome, Result, MatchBool, MatchOption, MatchResult, if◌then◌else◌, length, max, slice_get, take, drop}
+use Rattle.std.specs.Prelude.{◌≡◌, ◌≢◌, ◌⊎◌, ℕ, ◌+◌, ◌-◌, ◌<◌, ◌≤◌, Bool, true, not, List, [], ◌++◌, Option, None, Some, IfSome, Result, MatchBool, MatchOption, MatchResult, if◌then◌else◌, length, max, slice_get, take, drop}
+use Rattle.ac_util.specs.Commits.{StandsAfter}
 use Rattle.ac_automaton.specs.Util.{buffer_len, Built, FailsToRead, is_leftmost, IsNear, IsSettledBy, last_end, longest_len, No, Node, Occurrence, pick, Reading, ReadsAll, ReadsSome, reserve, Search, Standard, stream_refusal, stream_result, StreamError, walk_after, usize_max}
 use Rattle.ac_automaton.specs.declared.automaton.stream_settled.Phase.{Phase}
 use Rattle.ac_automaton.specs.declared.automaton.stream_settled.Phase.TheVariants.{Open, Ended, Failed}
+use Rattle.ac_automaton.specs.declared.automaton.commits.ChainMatch.{ChainMatch}
+use Rattle.ac_automaton.specs.declared.automaton.onward.ChainRest.{ChainRest}
+use Rattle.ac_automaton.specs.declared.automaton.onward.Given.{Given}
+use Rattle.ac_automaton.specs.Automata.{AutomatonView, plain_of}
+use Rattle.ac_automaton.specs.Commits.{CommitsView, HasCommits}
+use Rattle.ac_automaton.specs.Onward.{GivesOf, IsRestBefore, pending}
 use Rattle.ac_automaton.specs.Scans.{Reaches, search_of}
 
 -- what its automaton was built from; all bytes that were read so far; how many of their matches were given; where in the
@@ -184,8 +191,8 @@ kept_from Ended place all = all
 kept_from Failed place all = place
 
 -- inside: the start state, whether the first match found is given, and how many bytes may be kept back; the buffer, and how
--- many of its bytes are filled; the automaton's state, up to where the buffer was searched, and what is picked so far; where in
--- the stream the last match given ended
+-- many of its bytes are filled; the automaton's state, up to where the buffer was searched, and what of a chain is still to be
+-- given; where in the stream the last match given ended
 pub record Inside : Type 0 where
   pub start : ℕ
   pub stops : Bool
@@ -194,7 +201,7 @@ pub record Inside : Type 0 where
   pub filled : ℕ
   pub state : ℕ
   pub at : ℕ
-  pub picked : Option Occurrence
+  pub rest : Option ChainRest
   pub begun : ℕ
 
 -- how many bytes may be kept back: under a leftmost kind one more than under Standard, since a match that was found may still
@@ -230,8 +237,25 @@ pub record HasReadOn (stands : ℕ → Node → Type 0) (i : Inside) (v : Stream
   pub picks : picked ≡ pick v.built.kind (record (stream_from v.built v.bytes i.begun) { high = v.front + at })
   pub after : IfSome picked (λ m. v.kept ≤ m.start)
 
--- a search over a stream as it is kept between two calls
-pub record IsStreaming (stands : ℕ → Node → Type 0) (i : Inside) (v : Streaming) : Type 0 where
+-- under a leftmost kind a search stands at a node past the matches of a chain that it is still to give, whichever bytes follow, or
+-- none once the end was met; while some are left bytes are kept from the last match given on
+pub record StandsPast (stands : ℕ → Node → Type 0) (chains : List (List ChainMatch)) (i : Inside) (v : Streaming) : Type 0 where
+  pub node : List ℕ
+  pub there : stands i.state (Some node)
+  pub after : (more : List ℕ) → (v.phase ≡ Ended → more ≡ [])
+      → StandsAfter v.built.kind (plain_of v.built) (stream_from v.built (v.bytes ++ more) i.begun) (pending v.built chains i.rest) node
+      (v.front + i.at)
+  pub sound : IsRestBefore chains i.begun i.rest
+  pub near : IfSome i.rest (λ r. v.kept ≤ i.begun)
+
+-- the end was met, all was searched, and no match is left
+pub record IsOver (i : Inside) (v : Streaming) : Type 0 where
+  pub ended : v.phase ≡ Ended
+  pub whole : i.at ≡ i.filled
+  pub none : pick v.built.kind (stream_from v.built v.bytes i.begun) ≡ None
+
+-- a search over a stream as it is kept between two calls, by an automaton with these chains
+pub record IsStreaming (stands : ℕ → Node → Type 0) (chains : List (List ChainMatch)) (i : Inside) (v : Streaming) : Type 0 where
   pub allowed : stream_refusal v.built ≡ None
   pub starts : stands i.start (Some [])
   pub stops : i.stops ≡ not (is_leftmost v.built.kind)
@@ -243,7 +267,10 @@ pub record IsStreaming (stands : ℕ → Node → Type 0) (i : Inside) (v : Stre
   pub counted : length v.bytes ≡ v.front + i.filled
   pub small : length v.bytes ≤ usize_max
   pub holds : take i.filled i.buffer ≡ drop v.front v.bytes
-  pub searched : HasReadOn stands i v i.state i.at i.picked
+  pub within : i.at ≤ i.filled
+  pub read : i.begun ≤ v.front + i.at
+  pub searched : v.built.kind ≡ Standard → HasReadOn stands i v i.state i.at None
+  pub past : is_leftmost v.built.kind ≡ true → StandsPast stands chains i v
   pub given : HasGiven v.phase v.built v.bytes v.given i.begun
   pub all : v.phase ≡ Ended → GivesEarly v
   pub failed : v.phase ≡ Failed → HasGivenSettled v v
@@ -251,7 +278,20 @@ pub record IsStreaming (stands : ℕ → Node → Type 0) (i : Inside) (v : Stre
   pub in_buffer : v.front ≤ v.kept
   pub after : i.begun ≤ v.kept
   pub kept_within : v.kept ≤ length v.bytes
-  pub back : (v.kept ≤ max i.begun (v.front + i.at - i.reserve)) ⊎ ((v.phase ≡ Ended) × (i.at ≡ i.filled))
+  pub back : (v.kept ≤ max i.begun (v.front + i.at - i.reserve)) ⊎ IsOver i v
+
+-- and the commits are the automaton's
+pub record IsSearching (a : AutomatonView) (c : CommitsView) (i : Inside) (v : Streaming) : Type 0 where
+  pub commits : HasCommits a c
+  pub streams : IsStreaming (a.stands No) c.chains i v
+
+-- that is given which leaves a state, for each node for which it stands: a byte came that leads to the dead node, or the stream has
+-- ended. Or neither is so, or nothing is picked in that node
+abbrev pub GivesSettled : AutomatonView → List (List ChainMatch) → ℕ → Option ℕ → Phase → Option Given → Type 0
+GivesSettled a chains s byte phase result =
+    MatchOption result
+    (((byte ≡ None) × (phase ≢ Ended)) ⊎ GivesOf a chains s None)
+    (λ given. ((byte ≢ None) ⊎ (phase ≡ Ended)) × GivesOf a chains s (Some given))
 
 -- what is seen of an iterator over the matches of a stream: the search, and its reader
 pub record StreamReading : Type 0 where

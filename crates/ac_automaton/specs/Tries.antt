@@ -11,7 +11,7 @@ use Rattle.ac_automaton.specs.declared.nfa.noncontiguous.state.State.{State}
 use Rattle.ac_automaton.specs.declared.nfa.noncontiguous.state.TheConstants.{DEAD, FAIL, START, ANCHORED_START, FIRST_INNER}
 use Rattle.ac_automaton.specs.declared.nfa.noncontiguous.state.Transition.{Transition}
 use Rattle.ac_automaton.specs.declared.nfa.noncontiguous.state.TrieSlices.{TrieSlices}
-use Rattle.ac_automaton.specs.Automata.{plain_of, Lists, CommonView, built_as}
+use Rattle.ac_automaton.specs.Automata.{AutomatonView, plain_of, Lists, CommonView, built_as}
 use Rattle.std.specs.List.{range_with_len}
 
 -- what an automaton was built from, and whether to have a prefilter; the numbers of the patterns that take part in
@@ -231,6 +231,16 @@ stands-lists trie Yes s u h =
       left_out = [];
       front = sym (h.is_trie.lists s u h.named) ∙ sym (append-nil _);
     }
+
+-- what contracts see of the automaton of a trie
+abbrev pub automaton_of : Trie → AutomatonView
+automaton_of trie = record {
+  built = trie.built;
+  most = 2;
+  wants_prefilter = trie.wants_prefilter;
+  stands = λ anchored s u. IsTrieState trie s u;
+  listed = λ s. listed_within trie.order trie.states s s;
+}
 
 -- the number is that of a state among those that a search follows
 abbrev pub IsStateAmong : TrieSlices → ℕ → Type 0

@@ -5,6 +5,7 @@ ghost use Rattle.ac_util.specs.declared.search.Anchored.{Anchored};
 ghost use Rattle.ac_automaton.specs.Util.{input_of, bytes_of, longest_len, Node, pattern_of, shortest_len, skip_of};
 ghost use Rattle.ac_automaton.specs.Answers.{AnswersBytes, AnswersFind, AnswersListing, ExchangesStream, ExchangesStreamBy, AnswersText, AnswersWalk, BeginsBy, BeginsStream, ExchangesBytes, ExchangesText, FindsNext, IsPlacedIn};
 ghost use Rattle.ac_automaton.specs.Automata.{AutomatonView, CountsLooks, IsAnyState, IsState, KeepsAnchoring, Lists, StepsTo, Tells, common_of};
+ghost use Rattle.ac_automaton.specs.Commits.{HasCommits};
 ghost use Rattle.ac_automaton.specs.Iterators.{GoesOn};
 ghost use Rattle.ac_automaton.specs.Overlaps.{ListsNext, Takes};
 ghost use Rattle.ac_automaton.specs.Streams.{initial_reading};
@@ -19,11 +20,13 @@ use std::alloc::Allocator;
 use std::io;
 use stream_replace::{ByClosure, ByTexts, replace_stream};
 
+mod commits;
 mod common;
 mod find;
 mod gathered;
 mod lengths;
 mod listing;
+mod onward;
 mod overlap;
 mod overlap_iter;
 mod replace;
@@ -37,6 +40,7 @@ mod walk;
 
 pub use ac_util::prefilter::{Candidate, Prefilter};
 pub use ac_util::primitives::StateID;
+pub use commits::{ChainMatch, Chains, Commit, Commits};
 pub use common::Common;
 pub use find::{Finder, find_core};
 pub use listing::MatchRest;
@@ -169,6 +173,11 @@ pub trait Automaton {
     /// ```
     fn common(&self) -> &Common<Self::Memory>
         ensures { result.now ≡ common_of (seen self.now).built (seen self.now).wants_prefilter };
+
+    /// Returns the commits of the states, by which a leftmost walk reads on from match to match. See the example of
+    /// `common`.
+    fn commits(&self) -> &Commits<Self::Memory>
+        ensures { HasCommits (seen self.now) result.now };
 
     /// Returns the match kind, which decides which of the occurrences in a span a search returns. See the example of
     /// `common`.

@@ -11,3 +11,4 @@ pub mod NumberLemmas
 pub mod Ownership
 pub mod TextLemmas
 pub mod WalkEnds
+pub mod WalkSteps

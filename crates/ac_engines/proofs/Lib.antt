@@ -1,7 +1,10 @@
 pub mod Assembled
 pub mod ClassWords
 pub mod Decoding
+pub mod DfaNumbering
+pub mod DfaPlaces
 pub mod EdgeTargets
+pub mod EngineCommits
 pub mod Filled
 pub mod Follow
 pub mod InnerStates
@@ -11,6 +14,7 @@ pub mod Laying
 pub mod Listing
 pub mod MatchCounts
 pub mod MatchWords
+pub mod NodeBytes
 pub mod NodeLengths
 pub mod Numbered
 pub mod Numbers
@@ -18,7 +22,9 @@ pub mod OneRow
 pub mod Owning
 pub mod PackedBuilding
 pub mod PackedBuilt
+pub mod PackedNumbering
 pub mod PackedNumbers
+pub mod PackedPlaces
 pub mod PackedStates
 pub mod PackedSteps
 pub mod PackedSums
@@ -28,6 +34,7 @@ pub mod PlanSums
 pub mod PushedStates
 pub mod Pushing
 pub mod PushingClasses
+pub mod Renumbered
 pub mod RowByRow
 pub mod RowLists
 pub mod Setting

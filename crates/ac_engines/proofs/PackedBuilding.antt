@@ -1,10 +1,13 @@
 -- What a build of a contiguous NFA has made.
-use Rattle.std.proofs.Common.{◌≡◌, ℕ, ◌<◌, List, length, arith, slice_index_or}
+use Rattle.std.proofs.Common.{◌≡◌, ℕ, ◌<◌, ◌≤◌, Bool, Err, Result, List, length, arith, slice_index_or}
 use Rattle.std.proofs.lemmas.Grind.{common_steps}
-use Rattle.ac_automaton.specs.Util.{Both, Node}
+use Rattle.ac_automaton.specs.Util.{Both, BuildError, GREATEST, Node}
 use Rattle.ac_automaton.specs.declared.nfa.noncontiguous.state.TheConstants.{ANCHORED_START, START}
-use Rattle.ac_automaton.specs.Prelude.{common_of, CommonView}
-use Rattle.ac_engines.specs.Prelude.{contiguous_of, front_end, HasPlaces, MayPack, packed_of, PackPlan}
+use Rattle.ac_automaton.specs.Prelude.{common_of, CommonView, Trie}
+use Rattle.ac_util.specs.declared.error.BuildError.TheVariants.{Memory}
+use Rattle.ac_engines.specs.Contiguous.Builds.{AnswersContiguousFrom}
+use Rattle.ac_engines.specs.Contiguous.Plans.{all_words}
+use Rattle.ac_engines.specs.Prelude.{classes_by, contiguous_of, ContiguousSettings, ContiguousView, front_end, HasPlaces, MayPack, packed_of, PackPlan}
 
 -- words whose parts are those of a plan were packed by it
 pub packed-same : (q : PackPlan) (nodes : List Node) (numbers words : List ℕ) (common : CommonView)
@@ -26,3 +29,11 @@ starts-placed q nodes numbers may places = grind (arith, common_steps)
 pub read-number : (xs ys : List ℕ) (k n : ℕ) → k < length xs → xs ≡ ys → n ≡ slice_index_or xs k n
     → n ≡ slice_index_or ys k 0
 read-number xs ys k n within same read = grind (arith, common_steps)
+
+-- where there are no more words than numbers, memory alone is refused
+pub memory-answers : (settings : ContiguousSettings) (trie : Trie) (q : PackPlan) (dense_depth : ℕ) (byte_classes : Bool)
+    (classes : List ℕ) → q ≡ record { trie = trie; classes = classes; dense_depth = dense_depth }
+    → classes ≡ classes_by byte_classes trie.built.ignores_case trie.built.patterns
+    → dense_depth ≡ settings.dense_depth → byte_classes ≡ settings.byte_classes → all_words q ≤ GREATEST
+    → (r : Result ContiguousView BuildError) → r ≡ Err Memory → AnswersContiguousFrom settings trie r
+memory-answers settings trie q dense_depth byte_classes classes plan class depth same small r is = grind (arith, common_steps)

@@ -123,7 +123,7 @@ module _ (f : Packer) (nodes : List Node) (ready : AreReady f nodes) where
       omega (arith, total-grows (size_at f.plan nodes b) (s + 1) t (omega arith), at.ends, then.begins)
 
   -- and so have any two
-  places-apart : (s t : ℕ) (u v : Node) → 2 ≤ s → s < t → slice_get nodes s ≡ Some u → slice_get nodes t ≡ Some v
+  pub places-apart : (s t : ℕ) (u v : Node) → 2 ≤ s → s < t → slice_get nodes s ≡ Some u → slice_get nodes t ≡ Some v
       → place_at f.plan nodes s ≢ place_at f.plan nodes t
   places-apart s t u v reached earlier named other e =
       by (has_matches f.plan nodes u) (has_matches f.plan nodes v) refl refl

@@ -76,7 +76,7 @@ module _ (p : ContiguousView) (at : Places) (h : IsContiguous p at) where
   one-look No w b leads = grind (arith, common_steps)
 
   -- by a byte that leads on a state has a target
-  target-longer : (anchored : Anchored) (w : List ℕ) (b : ℕ) → b < 256 → leads_on p.built (Some w) b ≡ true
+  pub target-longer : (anchored : Anchored) (w : List ℕ) (b : ℕ) → b < 256 → leads_on p.built (Some w) b ≡ true
       → target_of p at anchored (Some w) b ≡ at.place (longer w b)
   target-longer No [] b byte leads = own-target p at h.apart (number_at at No (onward (Some []))) [] b byte leads
   target-longer Yes [] b byte leads = own-target p at h.apart FAIL [] b byte leads

@@ -6,7 +6,7 @@ pub mod Words
 use Rattle.std.specs.Prelude.{◌≡◌, ◌≢◌, ℕ, ◌<◌, ◌≤◌, ◌↔◌, ◌+◌, ◌-◌, ◌/◌, ◌%◌, ◌==◌, ◌&&◌, nat_lt, if◌then◌else◌, Bool, List, [], ◌∷◌, ◌++◌, drop, length, map, slice_index_or, take, Some, None}
 use Rattle.ac_automaton.specs.Util.{alphabet_len, AreClasses, Both, Built, class_at, Counts, GREATEST, IsNode, longest_len, more_looks, No, Node, plain_byte, SetsApart, Yes}
 use Rattle.ac_util.specs.declared.search.Anchored.{Anchored}
-use Rattle.ac_automaton.specs.Automata.{looks_of, step_of}
+use Rattle.ac_automaton.specs.Automata.{AutomatonView, looks_of, step_of}
 use Rattle.ac_automaton.specs.Prelude.{built_as, CommonView, matches_of, fallback, transition_bytes_of, plain_of}
 use Rattle.ac_engines.specs.declared.nfa.contiguous.state.Edge.{Edge}
 use Rattle.ac_engines.specs.Contiguous.Words.{dense_form, no_target, one_match, node_format, BeginsWith, PackedState}
@@ -129,6 +129,16 @@ pub record IsContiguousState (p : ContiguousView) (anchored : Anchored) (s : ℕ
   pub is_contiguous : IsContiguous p at
   pub node : IsNode p.built.kind (plain_of p.built) u
   pub number : s ≡ number_at at anchored u
+
+-- what contracts see of the words as an automaton
+abbrev pub contiguous_automaton : ContiguousView → AutomatonView
+contiguous_automaton p = record {
+  built = p.built;
+  most = 2;
+  wants_prefilter = p.wants_prefilter;
+  stands = λ anchored s u. IsContiguousState p anchored s u;
+  listed = λ s. match_list_at p s;
+}
 
 -- the number is that of a state in these words, and the class is that of some byte
 abbrev pub MayStepBy : List ℕ → ℕ → Anchored → ℕ → Type 0

@@ -6,7 +6,7 @@ use Rattle.std.specs.Prelude.{◌≡◌, ◌≢◌, ◌⊎◌, ℕ, ◌+◌, ◌
 use Rattle.ac_util.specs.declared.search.Anchored.{Anchored}
 use Rattle.ac_automaton.specs.Util.{alphabet_len, Both, Built, class_at, IsNode, No, Node, start_refusal, StartKind, Unanchored, Yes}
 use Rattle.ac_util.specs.declared.search.StartKind.TheVariants.{Anchored as AnchoredAlone}
-use Rattle.ac_automaton.specs.Prelude.{built_as, CommonView, matches_of, plain_of, step_of}
+use Rattle.ac_automaton.specs.Prelude.{AutomatonView, built_as, CommonView, matches_of, plain_of, step_of}
 
 -- what a DFA was built from, and whether to have a prefilter; the class of each byte, the exponent of the length of
 -- a row, the entries of all rows, and the match list of each row up to the last that has one
@@ -100,3 +100,13 @@ pub record IsDfaState (t : DfaView) (anchored : Anchored) (s : ℕ) (u : Node) :
   pub supported : start_refusal t.built.start_kind anchored ≡ None
   pub node : IsNode t.built.kind (plain_of t.built) u
   pub number : s ≡ number_of place (anchored_shift t.built.start_kind anchored (stride_of t)) u
+
+-- what contracts see of it as an automaton
+abbrev pub dfa_automaton : DfaView → AutomatonView
+dfa_automaton t = record {
+  built = t.built;
+  most = 1;
+  wants_prefilter = t.wants_prefilter;
+  stands = λ anchored s u. IsDfaState t anchored s u;
+  listed = λ s. list_at t s;
+}

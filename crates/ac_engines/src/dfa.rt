@@ -2,11 +2,11 @@
 ghost use Rattle.std.specs.Prelude.{◌≡◌, ℕ, ◌+◌, ◌<◌, ◌≤◌, IsTrue, List, length, slice_index_or};
 ghost use Rattle.std.proofs.Common.{inl, refl};
 ghost use Rattle.ac_automaton.specs.Util.{bytes_of, more_looks};
-ghost use Rattle.ac_engines.specs.Dfa.{HasMatchesAmong, IsDfa, IsDfaState, list_at};
+ghost use Rattle.ac_engines.specs.Dfa.{dfa_automaton, HasMatchesAmong, IsDfa, list_at};
 ghost use Rattle.ac_engines.specs.Dfa.Builds.{BuildsDfa, usual_dfa_settings};
 ghost use Rattle.ac_engines.specs.Listed.{dfa-lists};
 
-use ac_automaton::automaton::{Automaton, Common, MatchRest};
+use ac_automaton::automaton::{Automaton, Commits, Common, MatchRest};
 use ac_util::alphabet::ByteClasses;
 use ac_util::error::{BuildError, MatchError};
 use ac_util::looks::Looks;
@@ -54,6 +54,7 @@ pub struct DFA<A: Allocator = Global> {
     table: Vec<StateID, A>,
     /// The match list of each row up to the last that has one.
     lists: Pieces<PatternID, A>,
+    commits: Commits<A>,
     /// The unanchored start, or the dead state where there is none.
     start: StateID,
     /// The anchored start, or the dead state where there is none.
@@ -67,7 +68,8 @@ pub struct DFA<A: Allocator = Global> {
 impl<A: Allocator> Model for DFA<A> {
     ghost use Rattle.std.specs.Prelude.{◌≡◌, ◌≤◌, ◌^◌, List, ℕ};
     ghost use Rattle.ac_automaton.specs.Util.{No, Yes};
-    ghost use Rattle.ac_engines.specs.Dfa.{DfaView, HasMatchesAmong, IsDfa, dfa_of, start_number};
+    ghost use Rattle.ac_automaton.specs.Commits.{HasCommits};
+    ghost use Rattle.ac_engines.specs.Dfa.{DfaView, HasMatchesAmong, IsDfa, dfa_automaton, dfa_of, start_number};
 
     ghost Value = { DfaView };
 
@@ -81,6 +83,8 @@ impl<A: Allocator> Model for DFA<A> {
       anchored_start : d.anchored_start ≡ start_number d.start_kind Yes (2 ^ d.stride2);
       among : HasMatchesAmong (dfa_of d.common d.start_kind d.classes d.stride2 d.table.items d.lists)
           d.first_match d.match_end;
+      committed : HasCommits
+          (dfa_automaton (dfa_of d.common d.start_kind d.classes d.stride2 d.table.items d.lists)) d.commits;
     } };
 }
 
@@ -104,6 +108,7 @@ impl<A: Allocator + Clone> Clone for DFA<A> {
             common: self.common.clone()?,
             table: self.table.clone()?,
             lists: self.lists.clone()?,
+            commits: self.commits.clone()?,
             ..*self
         })
     }
@@ -172,13 +177,7 @@ impl<A: Allocator> Automaton for DFA<A> {
 
     ghost LOOKS = { 1 };
 
-    ghost seen = { λ d. record {
-      built = d.built;
-      most = 1;
-      wants_prefilter = d.wants_prefilter;
-      stands = λ anchored s u. IsDfaState d anchored s u;
-      listed = λ s. list_at d s;
-    } };
+    ghost seen = { dfa_automaton };
 
     ghost one_or_two = { inl refl };
 
@@ -250,10 +249,16 @@ impl<A: Allocator> Automaton for DFA<A> {
         &self.common
     }
 
+    #[inline]
+    fn commits(&self) -> &Commits<A> {
+        &self.commits
+    }
+
     fn memory_usage(&self) -> usize {
         let table = self.table.len().saturating_mul(size_of::<StateID>());
         table
             .saturating_add(self.lists.memory_usage())
+            .saturating_add(self.commits.memory_usage())
             .saturating_add(self.common.patterns().as_ref().memory_usage())
     }
 }

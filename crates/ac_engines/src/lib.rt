@@ -2,6 +2,7 @@
 #![tactic(auto)]
 
 mod classes;
+mod commits;
 pub mod dfa;
 mod matches;
 pub mod nfa;

@@ -6,12 +6,13 @@ use Rattle.std.proofs.lemmas.Bool.{and_parts, false≢true, cond-false, cond-tru
 use Rattle.std.proofs.lemmas.Grind.{common_steps}
 use Rattle.ac_util.specs.Prelude.{begins_with_pattern, equal_to, is_leftmost, IsFirst, LeftmostFirst, LeftmostLongest, matches, MatchKind, No, Occurrence, participates, pattern_of, Standard, Yes}
 use Rattle.ac_util.specs.declared.search.Anchored.{Anchored}
+use Rattle.ac_util.specs.Commits.{Prefixes, Stands, standing_at, IsPickIn}
 use Rattle.ac_util.proofs.Lists.{IsIn, none-from_nil}
-use Rattle.ac_util.proofs.Participants.{Prefixes, Equals, begins-from_Prefixes, leader, leader-least, leader-takes_part, participant-least, all_take_part, IsIn-equal_to, IsIn-from_equal_to, equal_to-ordered}
+use Rattle.ac_util.proofs.Participants.{Equals, begins-from_Prefixes, leader, leader-least, leader-takes_part, participant-least, all_take_part, IsIn-equal_to, IsIn-from_equal_to, equal_to-ordered}
 use Rattle.ac_util.proofs.Prefixes.{starts_with-itself}
 use Rattle.ac_util.proofs.Reached.{stops}
 use Rattle.ac_util.proofs.Found.{matches-nil, matches-cons}
-use Rattle.ac_util.proofs.Standing.{Stands, standing_at, IsPickIn, first-by_start, first-one_on, Prefixes-cases, Prefixes-length, Prefixes-equal, Stands-beyond, Stands-from_behind, Stands-from_Prefixes}
+use Rattle.ac_util.proofs.Standing.{first-by_start, first-one_on, Prefixes-cases, Prefixes-length, Prefixes-equal, Stands-beyond, Stands-from_behind, Stands-from_Prefixes}
 
 -- the front of an empty list is empty
 pub append_nil_left : (xs ys : List ℕ) → xs ++ ys ≡ [] → xs ≡ []

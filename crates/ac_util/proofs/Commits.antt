@@ -1,35 +1,16 @@
 -- What a walk gives of a string whatever follows it, one byte more at a time.
-use Rattle.std.proofs.Common.{◌≡◌, ℕ, suc, ◌+◌, ◌-◌, ◌<◌, ◌≤◌, true, List, [], ◌∷◌, ◌++◌, length, length-append, length-drop, map, drop, refl, ap, sym, ◌∙◌, arith, None, Some, rules}
-use Rattle.std.specs.Bool.{⊤}
+use Rattle.std.proofs.Common.{◌≡◌, ℕ, ◌+◌, ◌-◌, ◌<◌, ◌≤◌, true, List, [], ◌∷◌, ◌++◌, length, length-append, length-drop, map, drop, refl, ap, sym, ◌∙◌, arith, None, Some, rules}
 use Rattle.std.proofs.lemmas.List.{append-nil, append_assoc, drop-append-le, drop-drop, map-append}
 use Rattle.ac_util.specs.Prelude.{from, Node, is_leftmost, last_end, matches, MatchKind, No, Occurrence, outward, pattern_of, reached, Search, step, text, walk}
+use Rattle.ac_util.specs.Commits.{IsPickIn, IsSearchFor, Commits, Anything, Next, Nothing}
 use Rattle.ac_util.proofs.Advance.{pick-stays}
 use Rattle.ac_util.proofs.Found.{matches-reached}
 use Rattle.ac_util.proofs.Picks.{same_occurrence}
 use Rattle.ac_util.proofs.Reached.{reached-nil, step-reached}
 use Rattle.ac_util.proofs.Spans.{text_length}
-use Rattle.ac_util.proofs.Standing.{IsPickIn, Stands-end}
+use Rattle.ac_util.proofs.Standing.{Stands-end}
 use Rattle.ac_util.proofs.NodeRests.{IsRest, pick-in_node, reached-rest}
-use Rattle.ac_util.proofs.PickedWalks.{IsSearchFor, search-from, text-from, walk-dead, walk-none, walk-whole}
-
--- a text begins with w. Whatever follows that is such, its walk gives these matches first, all within w, and goes on from the
--- end of the last; and what w has from there on leads to the node v
-pub record Commits (kind : MatchKind) (patterns : List (List ℕ)) (w : List ℕ) (Follows : List ℕ → Type 0)
-    (ms : List Occurrence) (v : List ℕ) : Type 0 where
-  pub gives : (q : Search) (y : List ℕ) → IsSearchFor patterns q → text q ≡ w ++ y → Follows y
-      → walk kind q ≡ map (outward q.low) ms ++ walk kind (from q (q.low + last_end ms))
-  pub within : last_end ms ≤ length w
-  pub stands : reached kind patterns No (drop (last_end ms) w) ≡ Some v
-
--- what may follow: anything, something that begins with a byte, or nothing
-abbrev pub Anything : List ℕ → Type 0
-Anything y = ⊤
-
-abbrev pub Next : ℕ → List ℕ → Type 0
-Next b y = (rest : List ℕ) × (y ≡ b ∷ rest)
-
-abbrev pub Nothing : List ℕ → Type 0
-Nothing y = y ≡ []
+use Rattle.ac_util.proofs.PickedWalks.{search-from, text-from, walk-dead, walk-none, walk-whole}
 
 -- where the last of some matches ends, with others after them
 last_end-others : (ms : List Occurrence) (m : Occurrence) (ns : List Occurrence) → last_end (ms ++ m ∷ ns) ≡ last_end (m ∷ ns)
@@ -48,7 +29,7 @@ last_end-outward m (n ∷ ns) = on n ns
     on n (k ∷ ns) = on k ns
 
 -- places that are counted from one place and then from another
-map-outward : (a b : ℕ) (ms : List Occurrence) → map (outward a) (map (outward b) ms) ≡ map (outward (a + b)) ms
+pub map-outward : (a b : ℕ) (ms : List Occurrence) → map (outward a) (map (outward b) ms) ≡ map (outward (a + b)) ms
 map-outward a b [] = refl
 map-outward a b (m ∷ ms) = search (rules, same_occurrence, map-outward a b ms)
 
@@ -117,7 +98,7 @@ module _ (kind : MatchKind) (patterns : List (List ℕ)) (leftmost : is_leftmost
           ∙ sym (drop-drop since-is.0 (last_end ms) w) ∙ since-is.1.is
 
       -- the walk of what follows the matches before begins with it, whatever follows
-      abbrev IsFinal : Type 0
+      abbrev pub IsFinal : Type 0
       IsFinal = (q : Search) (y : List ℕ) → IsSearchFor patterns q → text q ≡ since ++ y → Follows y
           → walk kind q ≡ outward q.low (outward since-is.0 m) ∷ walk kind (from q (q.low + (since-is.0 + m.end)))
 

@@ -15,6 +15,7 @@ pub mod Advance
 pub mod Spans
 pub mod AtStart
 pub mod OneLonger
+pub mod Onward
 pub mod ListingLonger
 pub mod ListingBeginning
 pub mod SamenessLemmas

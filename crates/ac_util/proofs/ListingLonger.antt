@@ -5,13 +5,14 @@ use Rattle.std.proofs.lemmas.Bool.{cases_lt}
 use Rattle.std.proofs.lemmas.Grind.{common_steps}
 use Rattle.ac_util.specs.Prelude.{all, ending, equal_to, found_at_end, IsBefore, matches, No, Occurrence, Occurs, one_longer, outward, pattern_of, plain_patterns, Search, Standard, text, Yes}
 use Rattle.ac_util.specs.declared.search.Anchored.{Anchored}
+use Rattle.ac_util.specs.Commits.{Stands, standing_at}
 use Rattle.ac_util.proofs.Lists.{IsIn, IsIn-append_left, IsIn-append_right, IsIn-append_cases, IsIn-map, IsIn-from_map, IsOrdered, IsOrdered-append}
 use Rattle.ac_util.proofs.Listing.{all-has, all-only, all-ordered, all-unique}
 use Rattle.ac_util.proofs.Picks.{same_occurrence}
 use Rattle.ac_util.proofs.Prefixes.{starts_with-itself}
 use Rattle.ac_util.proofs.Participants.{IsIn-equal_to, IsIn-from_equal_to, equal_to-ordered}
 use Rattle.ac_util.proofs.Found.{matches-nil, matches-cons}
-use Rattle.ac_util.proofs.Standing.{Stands, standing_at, Prefixes-equal, Stands-beyond, Stands-from_behind}
+use Rattle.ac_util.proofs.Standing.{Prefixes-equal, Stands-beyond, Stands-from_behind}
 use Rattle.ac_util.proofs.Spans.{pattern_length, text_length, Stands-from_Occurs, Occurs-from_Stands}
 use Rattle.ac_util.proofs.OneLonger.{find_result-text}
 

@@ -1,21 +1,15 @@
 -- What a walk does with the string of a node once the pick in it is final, one byte more at a time.
-use Rattle.std.proofs.Common.{◌≡◌, ℕ, ◌+◌, ◌-◌, ◌<◌, ◌≤◌, ◌==◌, Bool, true, false, List, [], ◌∷◌, ◌++◌, length, length-drop, map, drop, refl, ap, sym, ◌∙◌, subst, arith, None, Some}
+use Rattle.std.proofs.Common.{◌≡◌, ℕ, ◌+◌, ◌-◌, ◌<◌, ◌≤◌, ◌==◌, Bool, true, false, List, [], ◌∷◌, ◌++◌, length, length-drop, drop, refl, ap, sym, ◌∙◌, subst, arith, None, Some}
 use Rattle.std.proofs.Math.Seq.{drop-length}
 use Rattle.std.proofs.lemmas.List.{drop-append-le}
-use Rattle.ac_util.specs.Prelude.{credit, is_leftmost, last_end, looks, looks_by, matches, MatchKind, No, Occurrence, outward, pattern_of, step}
+use Rattle.ac_util.specs.Prelude.{credit, is_leftmost, last_end, looks, looks_by, matches, MatchKind, No, Occurrence, pattern_of, step}
+use Rattle.ac_util.specs.Commits.{standing_at, IsPickIn, Commits, Anything, Next, NodeCommits}
 use Rattle.ac_util.proofs.Advance.{pick-stays}
-use Rattle.ac_util.proofs.Commits.{Anything, Commits, commits-nil, commits-on, commits-pick, commits-where, final-dead, given-on, Next}
+use Rattle.ac_util.proofs.Commits.{commits-nil, commits-on, commits-pick, final-dead, given-on}
 use Rattle.ac_util.proofs.DeadSteps.{dead-paid}
 use Rattle.ac_util.proofs.NodePicks.{EndsWithPick, match-picked, pick-before}
 use Rattle.ac_util.proofs.NodeRests.{reached-rest}
-use Rattle.ac_util.proofs.Standing.{IsPickIn, standing_at, Stands-end}
-
--- m is picked in the string u. Whatever follows u that is such, a walk of what u has after m gives these matches first, and then
--- stands at the node v
-pub record NodeCommits (kind : MatchKind) (patterns : List (List ℕ)) (u : List ℕ) (Follows : List ℕ → Type 0)
-    (m : Occurrence) (ms : List Occurrence) (v : List ℕ) : Type 0 where
-  pub picked : IsPickIn kind patterns No u (Some m)
-  pub rest : Commits kind patterns (drop m.end u) Follows ms v
+use Rattle.ac_util.proofs.Standing.{Stands-end}
 
 module _ (kind : MatchKind) (patterns : List (List ℕ)) (leftmost : is_leftmost kind ≡ true)
     (some : (n : ℕ) → n < length patterns → 0 < length (pattern_of patterns n)) where
@@ -24,18 +18,20 @@ module _ (kind : MatchKind) (patterns : List (List ℕ)) (leftmost : is_leftmost
   picked-within u m picked =
       let ends = Stands-end patterns No u m.pattern m.start picked.stands in let long = picked.as_long in omega arith
 
-  -- of a node with matches the first is picked, and nothing is left after it
+  -- where the pick ends with the node, nothing is left after it
+  pub node-ends : (u : List ℕ) (i : ℕ) (ends : EndsWithPick kind patterns leftmost u i)
+      → NodeCommits kind patterns u Anything (standing_at patterns i ends.start) [] []
+  node-ends u i ends = record {
+    picked = ends.picked;
+    rest = subst (λ (w : List ℕ). Commits kind patterns w Anything [] [])
+        (sym (ap (λ (k : ℕ). drop k u) ends.whole ∙ drop-length u)) (commits-nil kind patterns leftmost some);
+  }
+
+  -- so it is of a node with matches, of which the first is picked
   pub node-matches : (u : List ℕ) (i : ℕ) (rest : List ℕ) → matches kind patterns No (Some u) ≡ i ∷ rest
       → (start : ℕ) × NodeCommits kind patterns u Anything (standing_at patterns i start) [] []
   node-matches u i rest e =
-      let ends = match-picked kind patterns leftmost u i rest e in (
-        ends.start,
-        record {
-          picked = ends.picked;
-          rest = subst (λ (w : List ℕ). Commits kind patterns w Anything [] [])
-              (sym (ap (λ (k : ℕ). drop k u) ends.whole ∙ drop-length u)) (commits-nil kind patterns leftmost some);
-        },
-      )
+      let ends = match-picked kind patterns leftmost u i rest e in (ends.start, node-ends u i ends)
 
   module _ (u : List ℕ) (b : ℕ) (m : Occurrence) (ms : List Occurrence) (v : List ℕ) where
     -- a byte that leads on from v, and to no match from u
@@ -62,21 +58,22 @@ module _ (kind : MatchKind) (patterns : List (List ℕ)) (leftmost : is_leftmost
             (final-dead kind patterns leftmost some (drop m.end u) ms v n next.picked b c.rest dead) ns x next.rest;
       }
 
-  module _ (u : List ℕ) (m : Occurrence) (ms : List Occurrence) (v : List ℕ) (c : NodeCommits kind patterns u Anything m ms v) where
-    -- the node where a walk then stands is no longer than what follows the pick
-    pub node-shorter : length v ≤ length u - m.end
-    node-shorter =
-        let rest = reached-rest kind patterns (drop (last_end ms) (drop m.end u)) v c.rest.stands in
-        let long = rest.1.long in let first = length-drop (last_end ms) (drop m.end u) in let second = length-drop m.end u in
-        omega arith
+  -- the node where a walk then stands is no longer than what follows the pick
+  pub node-shorter : (u : List ℕ) (m : Occurrence) (ms : List Occurrence) (v : List ℕ) (Follows : List ℕ → Type 0)
+      → NodeCommits kind patterns u Follows m ms v → length v ≤ length u - m.end
+  node-shorter u m ms v Follows c =
+      let rest = reached-rest kind patterns (drop (last_end ms) (drop m.end u)) v c.rest.stands in
+      let long = rest.1.long in let first = length-drop (last_end ms) (drop m.end u) in let second = length-drop m.end u in
+      omega arith
 
+  module _ (u : List ℕ) (m : Occurrence) (ms : List Occurrence) (v : List ℕ) (c : NodeCommits kind patterns u Anything m ms v) where
     -- so a step to the dead node, and what that node's length is worth, are paid by the length of this one and one look more
     module _ (b : ℕ) (some-bytes : m.start < m.end) (dead : step kind patterns No (Some u) b ≡ None) where
       looks-paid : looks kind patterns No (Some u) b + length v ≤ length u + 1
       looks-paid =
           let paid = dead-paid kind patterns leftmost b (length u - m.end) (length u) u (omega arith)
           (pick-before kind patterns leftmost u m c.picked some-bytes) dead in
-          let short = node-shorter in omega arith
+          let short = node-shorter u m ms v Anything c in omega arith
 
       pub node-paid : (most : ℕ) → looks_by most kind patterns No (Some u) b + credit most (Some v) ≤ credit most (Some u) + 1
       node-paid most = by (most == 1) refl

@@ -1,13 +1,14 @@
 -- What is picked in the string of a node, and what a walk gives that stands there as it reads on.
 use Rattle.std.proofs.Common.{◌≡◌, ℕ, ◌+◌, ◌-◌, ◌<◌, true, List, [], ◌∷◌, ◌++◌, length, drop, ap, sym, ◌∙◌, arith, None, Some}
 use Rattle.ac_util.specs.Prelude.{is_leftmost, matches, MatchKind, No, Node, Occurrence, pattern_of, reached, step}
+use Rattle.ac_util.specs.Commits.{standing_at, IsPickIn}
 use Rattle.ac_util.proofs.Advance.{head, pick-becomes, pick-stays}
 use Rattle.ac_util.proofs.DeadSteps.{BeginsBefore}
 use Rattle.ac_util.proofs.Found.{matches-reached}
 use Rattle.ac_util.proofs.Living.{dead-begins}
 use Rattle.ac_util.proofs.Participants.{begins-from_Prefixes, leader}
 use Rattle.ac_util.proofs.Reached.{step-reached}
-use Rattle.ac_util.proofs.Standing.{IsPickIn, Stands-end, standing_at}
+use Rattle.ac_util.proofs.Standing.{Stands-end}
 
 module _ (kind : MatchKind) (patterns : List (List ℕ)) (leftmost : is_leftmost kind ≡ true) where
   -- where a node has matches the first is the pick, and ends with the string

@@ -3,11 +3,11 @@ use Rattle.std.proofs.Common.{◌≡◌, ℕ, suc, ◌+◌, ◌-◌, ◌≤◌, 
 use Rattle.std.proofs.lemmas.List.{drop-drop}
 use Rattle.std.proofs.lemmas.Grind.{common_steps}
 use Rattle.ac_util.specs.Prelude.{begins_with_pattern, is_leftmost, is_node, IsFirst, MatchKind, No, Occurrence, outward, reached}
+use Rattle.ac_util.specs.Commits.{Stands, standing_at, IsPickIn}
 use Rattle.ac_util.proofs.Living.{begins-early}
 use Rattle.ac_util.proofs.Participants.{begins-from_Prefixes}
 use Rattle.ac_util.proofs.Reached.{reached-cons, reached-nil}
 use Rattle.ac_util.proofs.Spans.{first-outward}
-use Rattle.ac_util.proofs.Standing.{IsPickIn, standing_at, Stands}
 
 -- v is what w has from a place on
 pub record IsRest (w v : List ℕ) (place : ℕ) : Type 0 where

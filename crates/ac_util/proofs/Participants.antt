@@ -5,13 +5,9 @@ use Rattle.std.proofs.lemmas.Bool.{false≢true, false_from_ne_true}
 use Rattle.std.proofs.lemmas.Slice.Eq.{bytes_eq-Decides}
 use Rattle.std.proofs.lemmas.Grind.{common_steps}
 use Rattle.ac_util.specs.Prelude.{begins_with_pattern, equal_to, is_leftmost, is_node, LeftmostFirst, LeftmostLongest, MatchKind, participants, participates, pattern_of, Standard}
+use Rattle.ac_util.specs.Commits.{Prefixes}
 use Rattle.ac_util.proofs.Lists.{IsIn, IsIn-filter, IsIn-from_filter, IsIn-range, IsIn-from_range, IsOrdered, IsOrdered-filter, IsOrdered-range, nil-from_none}
 use Rattle.ac_util.proofs.Prefixes.{starts_with-itself, starts_with-front, starts_with-more, starts_with-whole, starts_with-trans, list_any-weaker, list_any-from_IsIn, first_any}
-
--- pattern n is a prefix of w
-pub record Prefixes (patterns : List (List ℕ)) (w : List ℕ) (n : ℕ) : Type 0 where
-  pub numbered : n < length patterns
-  pub front : starts_with nat_eq w (pattern_of patterns n) ≡ true
 
 module _ (patterns : List (List ℕ)) where
   -- a string with such a prefix begins with a pattern

@@ -4,17 +4,10 @@ use Rattle.std.proofs.Math.Seq.{take-append_seam}
 use Rattle.std.proofs.lemmas.List.{drop-drop, drop-map, drop-take, length-map}
 use Rattle.ac_util.specs.declared.search.Anchored.{Anchored}
 use Rattle.ac_util.specs.Prelude.{from, MatchKind, next_match, No, Occurrence, Occurs, outward, pattern_of, pick, plain, plain_byte, plain_patterns, reached, Search, text, walk, walk_after}
+use Rattle.ac_util.specs.Commits.{IsPickIn, IsSearchFor}
 use Rattle.ac_util.proofs.OneLonger.{pick-dead}
 use Rattle.ac_util.proofs.Spans.{part, pattern_length, pick-from_text, text_length}
-use Rattle.ac_util.proofs.Standing.{IsPickIn}
 use Rattle.ac_util.proofs.Walks.{next-none, next-some, pick-Occurs, walk_after-None, walk_after-Some}
-
--- an unanchored search for these plain patterns, in a span of its haystack
-pub record IsSearchFor (patterns : List (List ℕ)) (q : Search) : Type 0 where
-  pub free : q.anchored ≡ No
-  pub ordered : q.low ≤ q.high
-  pub inside : q.high ≤ length q.haystack
-  pub same : plain_patterns q ≡ patterns
 
 -- a search for these patterns, none of them empty
 module _ (kind : MatchKind) (patterns : List (List ℕ))

@@ -5,8 +5,9 @@ use Rattle.std.proofs.Math.ListN.{get_or-map}
 use Rattle.std.proofs.lemmas.Slice.Eq.{bytes_eq-Decides}
 use Rattle.std.proofs.lemmas.Grind.{common_steps}
 use Rattle.ac_util.specs.Prelude.{cut, IsFirst, IsPick, LeftmostFirst, LeftmostLongest, MatchKind, Occurrence, occurrence, Occurs, one_longer, outward, pattern_of, pick, plain, plain_byte, plain_patterns, Search, Standard, text}
+use Rattle.ac_util.specs.Commits.{Stands, standing_at, IsPickIn}
 use Rattle.ac_util.proofs.Picks.{pick-IsPick, pick-from_IsPick, same_occurrence}
-use Rattle.ac_util.proofs.Standing.{Stands, standing_at, IsPickIn, Stands-end}
+use Rattle.ac_util.proofs.Standing.{Stands-end}
 
 -- a part of the first m elements is a part of the list
 pub take_drop_take : {X : Type 0} (n k m : ℕ) (xs : List X) → k + n ≤ m

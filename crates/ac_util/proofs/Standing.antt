@@ -1,33 +1,11 @@
 -- Where patterns stand in a text, and how one more byte changes that.
-use Rattle.std.proofs.Common.{◌≡◌, ℕ, suc, ◌+◌, ◌<◌, ◌≤◌, true, List, [], ◌∷◌, ◌++◌, length, drop, ◌⊎◌, inl, inr, refl, arith, Option, MatchOption, rules}
+use Rattle.std.proofs.Common.{◌≡◌, ℕ, suc, ◌+◌, ◌<◌, ◌≤◌, true, List, [], ◌∷◌, ◌++◌, length, ◌⊎◌, inl, inr, refl, arith, rules}
 use Rattle.std.proofs.lemmas.Bool.{cases_Bool}
 use Rattle.std.proofs.lemmas.Grind.{common_steps}
-use Rattle.ac_util.specs.Prelude.{is_leftmost, IsFirst, LeftmostFirst, LeftmostLongest, MatchKind, No, Occurrence, occurrence, pattern_of, Standard, Yes}
+use Rattle.ac_util.specs.Prelude.{is_leftmost, IsFirst, LeftmostFirst, LeftmostLongest, MatchKind, No, Occurrence, pattern_of, Standard}
 use Rattle.ac_util.specs.declared.search.Anchored.{Anchored}
+use Rattle.ac_util.specs.Commits.{Prefixes, Stands, standing_at}
 use Rattle.ac_util.proofs.Prefixes.{starts_with-whole, starts_with-length, starts_with-equal}
-use Rattle.ac_util.proofs.Participants.{Prefixes}
-
--- pattern n stands in the text w from place s on, and if anchored at its front
-pub record Stands (patterns : List (List ℕ)) (anchored : Anchored) (w : List ℕ) (n s : ℕ) : Type 0 where
-  pub within : s ≤ length w
-  pub prefixes : Prefixes patterns (drop s w) n
-  pub at_front : anchored ≡ Yes → s ≡ 0
-
--- its place there
-abbrev pub standing_at : List (List ℕ) → ℕ → ℕ → Occurrence
-standing_at patterns n s = occurrence n s (s + length (pattern_of patterns n))
-
--- m stands in w, and nothing that stands there is preferred to it
-pub record IsBestIn (kind : MatchKind) (patterns : List (List ℕ)) (anchored : Anchored) (w : List ℕ)
-    (m : Occurrence) : Type 0 where
-  pub stands : Stands patterns anchored w m.pattern m.start
-  pub as_long : m.start + length (pattern_of patterns m.pattern) ≡ m.end
-  pub first : (n s : ℕ) → Stands patterns anchored w n s → IsFirst kind m (standing_at patterns n s)
-
--- r is that, or it is None and nothing stands in w
-abbrev pub IsPickIn : MatchKind → List (List ℕ) → Anchored → List ℕ → Option Occurrence → Type 0
-IsPickIn kind patterns anchored w r =
-    MatchOption r ((n s : ℕ) → ¬ Stands patterns anchored w n s) (IsBestIn kind patterns anchored w)
 
 -- how the order of preference goes with places
 pub first-by_start : (kind : MatchKind) (a b : Occurrence) → a.start < b.start

@@ -13,4 +13,5 @@ pub mod Classes
 pub mod Plain
 pub mod Prefilters
 pub mod Built
+pub mod Commits
 pub mod Laws

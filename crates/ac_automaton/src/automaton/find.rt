@@ -1,10 +1,13 @@
 //! The core of every find.
-ghost use Rattle.std.specs.Prelude.{◌≡◌, ◌<◌, ◌↔◌, IsTrue, None};
+ghost use Rattle.std.specs.Prelude.{◌≡◌, ◌<◌, ◌↔◌, false, IsTrue, MatchOption, None};
 ghost use Rattle.ac_automaton.specs.Util.{find_result, Standard, start_refusal};
 ghost use Rattle.ac_automaton.specs.Answers.{BeginsBy};
 ghost use Rattle.ac_automaton.specs.Finds.{finding_of, FindsIn, MaySearch, between, input_over};
+ghost use Rattle.ac_automaton.specs.Iterators.{reads_past_by};
+ghost use Rattle.ac_automaton.specs.Onward.{BeginsPast};
 
 use super::Automaton;
+use super::onward::Onward;
 use super::scan::{Cursor, Scanner};
 use super::skip::SkipBudget;
 use ac_util::error::MatchError;
@@ -119,6 +122,27 @@ impl<'a, A: Automaton> Finder<'a, A> {
         ensures { IsTrue result ↔ (self.now.picking.order ≡ Standard) }
     {
         self.stops
+    }
+
+    /// Returns a walk from an offset on that reads each byte once, where a walk by these finds may be one.
+    #[inline]
+    pub(super) fn onward(&self, at: usize) -> Option<Onward<'a, A>>
+        ensures { MatchOption result
+            (reads_past_by self.now.picking.order self.now.anchored self.now.built.patterns ≡ false)
+            (BeginsPast A.seen self.now at) }
+    {
+        if self.stops || self.automaton.min_pattern_len() == 0 {
+            return None;
+        }
+        if self.anchored == Anchored::Yes {
+            return None;
+        }
+        let (first, needle) = match self.prefilter {
+            Some(Prefilter::Bytes(first)) => (Some(*first), None),
+            Some(Prefilter::Needle(needle)) => (None, Some(needle)),
+            None => (None, None),
+        };
+        Some(Onward::new(self.automaton, self.start, first, needle, at))
     }
 
     /// Returns the match that is picked in a span of a tape's haystack, as `find_core` does, with the same conditions

@@ -63,7 +63,7 @@ impl SkipBudget {
 
     /// Charges a call, and adds the bytes that it skipped.
     #[inline]
-    fn record_skip(&mut self, skipped: usize) {
+    pub(super) fn record_skip(&mut self, skipped: usize) {
         let left = self.bytes.saturating_sub(CALL_WORTH);
         self.bytes = left.saturating_add(skipped);
         if self.bytes > MOST_BUDGET {
@@ -91,7 +91,7 @@ impl SkipBudget {
     /// Returns the offset up to which a search reads without the prefilter: one byte on where there is budget, else
     /// as far as it rests, and no further than the end.
     #[inline]
-    fn rest_end(&self, at: usize, end: usize) -> usize
+    pub(super) fn rest_end(&self, at: usize, end: usize) -> usize
         requires before_end { at < end }
         ensures onward { at < result }
         ensures within { result ≤ end }
@@ -103,7 +103,7 @@ impl SkipBudget {
     /// Records bytes that were read without the prefilter: where there is budget they are charged, and else it may
     /// be called again after enough of them.
     #[inline]
-    fn record_rest(&mut self, read: usize) {
+    pub(super) fn record_rest(&mut self, read: usize) {
         if self.is_left() {
             self.bytes = self.bytes.saturating_sub(read);
         } else if read < self.rest {

@@ -1,13 +1,18 @@
 //! The search of a stream: what a reader gives is read into a buffer, and its matches are returned one after another.
-ghost use Rattle.std.specs.Prelude.{◌≡◌, ◌≤◌, ◌<◌, ◌+◌, ◌-◌, None, Some, drop, false, true, length, slice_range, take};
-ghost use Rattle.ac_automaton.specs.Util.{IsNear, Reads};
+ghost use Rattle.std.specs.Prelude.{◌≡◌, ◌≢◌, ◌≤◌, ◌<◌, ◌+◌, ◌-◌, [], None, Some, drop, false, true, length, slice_range, take};
+ghost use Rattle.ac_automaton.specs.Util.{is_leftmost, IsNear, No, Reads, Standard};
 ghost use Rattle.ac_automaton.specs.Answers.{BeginsStream};
-ghost use Rattle.ac_automaton.specs.declared.automaton.stream_settled.Phase.TheVariants.{Ended, Open};
-ghost use Rattle.ac_automaton.specs.Streams.{Fills, HasGivenSettled, GivesLast, GivesRead, StreamsOn, kept_len, initial_stream};
+ghost use Rattle.ac_automaton.specs.Automata.{IsState};
+ghost use Rattle.ac_automaton.specs.Commits.{AreCommits, reads_on};
+ghost use Rattle.ac_automaton.specs.Onward.{ReadsAlive};
+ghost use Rattle.ac_automaton.specs.declared.automaton.stream_settled.Phase.TheVariants.{Ended, Failed, Open};
+ghost use Rattle.ac_automaton.specs.Streams.{Fills, HasGivenSettled, GivesLast, GivesRead, GivesSettled, StreamsOn, kept_len, initial_stream};
 
 use super::Automaton;
+use super::commits::Commits;
+use super::onward::{ChainRest, Given, chain_rest, given_at, match_ending, read_alive, take_next};
 use super::scan::{Cursor, Scanner};
-use super::stream_settled::{Phase, buffer_len, most_kept, settled_from, settled_match};
+use super::stream_settled::{Phase, buffer_len, most_kept, settled_from};
 use ac_util::device::Source;
 use ac_util::error::{MatchError, StreamError};
 use ac_util::history::History;
@@ -25,8 +30,8 @@ use std::snapshot::Snapshot;
 /// The matches are those of the walk over all bytes that the readers gave, however they cut them. A match is returned
 /// once it is settled, which means that the search has seen that no byte to come can change it: under
 /// `MatchKind::Standard` when it is found, under a leftmost kind at most one byte after that is so. Some bytes after
-/// the match may have been read by then: these are searched again, at most as many for each match as the longest
-/// pattern has.
+/// the match may have been read by then: the automaton's commits say what lies in these, so that only the last of them
+/// is read again.
 ///
 /// What was read is in one buffer, which is made at first and never grows: it is read into as far as it has room, and
 /// the bytes that a match to come may need are moved to its front only when it is full. Contracts see all bytes that
@@ -36,6 +41,7 @@ use std::snapshot::Snapshot;
 #[derive(Drop)]
 pub struct StreamFinder<'a, A: Automaton, Z: Allocator> {
     automaton: &'a A,
+    commits: &'a Commits<A::Memory>,
     /// The state at which a search begins.
     start: StateID,
     /// Whether the first match found is given.
@@ -52,8 +58,8 @@ pub struct StreamFinder<'a, A: Automaton, Z: Allocator> {
     state: StateID,
     /// Up to where the buffer was searched.
     at: usize,
-    /// The match that is picked so far, which more bytes may still change.
-    picked: Option<Match>,
+    /// The matches of a chain that are still to be given.
+    rest: Option<ChainRest>,
     phase: Phase,
     /// Where in the stream the last match given ended.
     begun: Snapshot<usize>,
@@ -63,15 +69,14 @@ pub struct StreamFinder<'a, A: Automaton, Z: Allocator> {
 
 impl<'a, A: Automaton, Z: Allocator> Model for StreamFinder<'a, A, Z> {
     ghost use Rattle.std.specs.Prelude.{length};
-    ghost use Rattle.ac_util.specs.declared.search.Anchored.TheVariants.{No};
-    ghost use Rattle.ac_automaton.specs.Streams.{IsStreaming, Streaming, streaming_by};
+    ghost use Rattle.ac_automaton.specs.Streams.{IsSearching, Streaming, streaming_by};
 
     ghost Value = { Streaming };
 
     ghost view = { λ f. streaming_by (A.seen f.automaton.now).built f.history.bytes f.given.number f.front f.kept f.phase
         (length f.buffer.items) };
 
-    ghost invariant = { λ f. IsStreaming ((A.seen f.automaton.now).stands No)
+    ghost invariant = { λ f. IsSearching (A.seen f.automaton.now) f.commits.now
         (record {
           start = f.start;
           stops = f.stops;
@@ -80,7 +85,7 @@ impl<'a, A: Automaton, Z: Allocator> Model for StreamFinder<'a, A, Z> {
           filled = f.filled;
           state = f.state;
           at = f.at;
-          picked = f.picked;
+          rest = f.rest;
           begun = f.begun.value;
         })
         (streaming_by (A.seen f.automaton.now).built f.history.bytes f.given.number f.front f.kept f.phase
@@ -107,6 +112,7 @@ impl<'a, A: Automaton, Z: Allocator> StreamFinder<'a, A, Z> {
         buffer.resize(buffer_len(longest), 0)?;
         Ok(StreamFinder {
             automaton,
+            commits: automaton.commits(),
             start,
             stops,
             reserve: most_kept(stops, longest),
@@ -116,7 +122,7 @@ impl<'a, A: Automaton, Z: Allocator> StreamFinder<'a, A, Z> {
             kept: 0,
             state: start,
             at: 0,
-            picked: None,
+            rest: None,
             phase: Phase::Open,
             begun: Snapshot::of(&0),
             given: Tally::zero(),
@@ -170,6 +176,19 @@ impl<'a, A: Automaton, Z: Allocator> StreamFinder<'a, A, Z> {
         if matches!(self.phase, Phase::Failed) {
             return None;
         }
+        if self.stops {
+            self.next_first()
+        } else {
+            self.next_past()
+        }
+    }
+
+    /// Returns the next match as `next_read` does where the first match found is given.
+    fn next_first(&mut self) -> Option<Match>
+        requires goes_on { self.old.phase ≢ Failed }
+        requires standard { self.old.built.kind ≡ Standard }
+        ensures { GivesRead self.old result self.new }
+    {
         let scanner = Scanner {
             automaton: self.automaton,
             anchored: Anchored::No,
@@ -179,33 +198,72 @@ impl<'a, A: Automaton, Z: Allocator> StreamFinder<'a, A, Z> {
             },
             front: self.front,
         };
-        let before = self.picked;
         let mut here = Cursor {
             state: self.state,
             at: self.at,
         };
         let (mut tape, mut looks) = open(&Input::new(&self.buffer[..self.filled]));
         let cursor = &mut here;
-        let picked = scanner.pick_on(self.stops, cursor, before, &mut tape, &mut looks);
+        let picked = scanner.pick_on(self.stops, cursor, None, &mut tape, &mut looks);
         let (state, at) = (cursor.state, cursor.at);
-        let dead = self.automaton.is_dead(state);
-        let settled = settled_match(&picked, self.stops, dead, self.phase);
-        match settled {
+        match picked {
             Some(found) => {
                 self.state = self.start;
                 self.at = found.end() - self.front;
-                self.picked = None;
                 self.begun = Snapshot::of(&found.end());
                 self.given = Tally::after(&self.given);
                 self.kept = found.end();
                 Some(found)
             }
             None => {
-                (self.state, self.at, self.picked) = (state, at, picked);
+                (self.state, self.at) = (state, at);
                 self.kept = settled_from(self.phase, self.kept, self.front + at, self.reserve);
                 None
             }
         }
+    }
+
+    /// Returns the next match as `next_read` does under a leftmost kind: the next one of a chain, or else the one that is
+    /// picked where a byte leads to the dead state, or where the stream has ended. That byte is tried again from the
+    /// state where the search then goes on, and no other is.
+    fn next_past(&mut self) -> Option<Match>
+        requires goes_on { self.old.phase ≢ Failed }
+        requires leftmost { is_leftmost self.old.built.kind ≡ true }
+        ensures { GivesRead self.old result self.new }
+    {
+        if let Some(found) = take_next(self.automaton, self.commits.chains(), &mut self.rest) {
+            self.begun = Snapshot::of(&found.end());
+            self.given = Tally::after(&self.given);
+            self.kept = found.end();
+            return Some(found);
+        }
+        let mut here = Cursor {
+            state: self.state,
+            at: self.at,
+        };
+        let byte = read_through(self.automaton, &self.buffer[..self.filled], &mut here);
+        self.at = here.at;
+        let read = self.front + here.at;
+        let settled = given_settled(
+            self.automaton,
+            self.commits,
+            self.start,
+            here.state,
+            byte,
+            self.phase,
+        );
+        let Some(given) = settled else {
+            self.state = here.state;
+            self.kept = settled_from(self.phase, self.kept, read, self.reserve);
+            return None;
+        };
+        let end = read - given.rest;
+        self.state = given.next;
+        self.rest = chain_rest(given.chain, end);
+        self.begun = Snapshot::of(&end);
+        self.given = Tally::after(&self.given);
+        self.kept = end;
+        Some(match_ending(self.automaton, given.pattern, end))
     }
 
     /// Reads more bytes into the buffer, and returns whether some came: else the end was met. All matches of what was read that
@@ -306,4 +364,38 @@ fn read_after<R: Source>(reader: &mut R, buffer: &mut [u8], filled: usize) -> io
     ensures reads { Reads R.empty_means_end (R.told reader.old) (R.told reader.new) result (drop filled buffer.new) }
 {
     reader.read_some(&mut buffer[filled..])
+}
+
+/// Reads on in some bytes up to one that leads to the dead state, which it returns, or up to their end. The cursor stays before
+/// that byte.
+fn read_through<A: Automaton>(automaton: &A, bytes: &[u8], cursor: &mut Cursor) -> Option<u8>
+    requires on { reads_on (A.seen automaton.now).built ≡ true }
+    requires state { IsState ((A.seen automaton.now).stands No) cursor.old.state }
+    ensures { ReadsAlive (A.seen automaton.now) bytes.now (length bytes.now) cursor.old cursor.new result }
+{
+    let (mut tape, mut looks) = open(&Input::new(bytes));
+    read_alive(automaton, bytes.len(), cursor, &mut tape, &mut looks)
+}
+
+/// Returns what is given that leaves a state, if that is settled: where a byte was read that leads to the dead state, or the stream
+/// has ended.
+fn given_settled<A: Automaton>(
+    automaton: &A,
+    commits: &Commits<A::Memory>,
+    start: StateID,
+    state: StateID,
+    byte: Option<u8>,
+    phase: Phase,
+) -> Option<Given>
+    requires on { reads_on (A.seen automaton.now).built ≡ true }
+    requires starts { (A.seen automaton.now).stands No start (Some []) }
+    requires commits { AreCommits (A.seen automaton.now) commits.now }
+    requires state { IsState ((A.seen automaton.now).stands No) state }
+    ensures { GivesSettled (A.seen automaton.now) commits.now.chains state byte phase result }
+{
+    if byte.is_some() || matches!(phase, Phase::Ended) {
+        given_at(automaton, commits, start, state)
+    } else {
+        None
+    }
 }

@@ -1,10 +1,7 @@
 //! What of a stream is settled, so that no byte to come can change it, and how many bytes are kept for the rest.
-ghost use Rattle.std.specs.Prelude.{◌≡◌, ◌≢◌, ◌⊎◌, ◌-◌, ◌*◌, MatchOption, None, Some, false, true, if◌then◌else◌, max, min};
+ghost use Rattle.std.specs.Prelude.{◌≡◌, ◌-◌, ◌*◌, if◌then◌else◌, max, min};
 ghost use Rattle.ac_automaton.specs.Util.{usize_max};
-ghost use Rattle.ac_automaton.specs.declared.automaton.stream_settled.Phase.TheVariants.{Ended};
 ghost use Rattle.ac_automaton.specs.Streams.{kept_from};
-
-use ac_util::search::Match;
 
 /// How many bytes a buffer has at least.
 const LEAST_BUFFER: usize = 65536;
@@ -21,25 +18,6 @@ pub enum Phase {
     Ended,
     /// A read failed, or brought more than a `usize` counts: the reader isn't called again.
     Failed,
-}
-
-/// Returns what a search picks so far if it is settled: if the first match found is the answer, nothing more can be
-/// found, or the stream has ended.
-pub(super) fn settled_match(
-    picked: &Option<Match>,
-    stops: bool,
-    dead: bool,
-    phase: Phase,
-) -> Option<Match>
-    ensures { MatchOption result
-        ((picked.now ≡ None) ⊎ ((stops ≡ false) × (dead ≡ false) × (phase ≢ Ended)))
-        (λ m. (picked.now ≡ Some m) × ((stops ≡ true) ⊎ ((dead ≡ true) ⊎ (phase ≡ Ended)))) }
-{
-    if stops || dead || matches!(phase, Phase::Ended) {
-        *picked
-    } else {
-        None
-    }
 }
 
 /// Returns the offset before which nothing is kept, once all matches of the bytes read that are settled were returned.

@@ -1,12 +1,13 @@
 //! The matches of a walk, one after another.
-ghost use Rattle.std.specs.Prelude.{◌≡◌, ◌+◌, ◌<◌, ◌≤◌, IfSome};
+ghost use Rattle.std.specs.Prelude.{◌≡◌, ◌+◌, ◌<◌, ◌≤◌, true, IfSome};
 ghost use Rattle.std.specs.Iterator.{item_count};
 ghost use Rattle.ac_automaton.specs.Util.{input_of, next_match, repeats, usize_max};
 ghost use Rattle.ac_automaton.specs.Answers.{AnswersWalk};
-ghost use Rattle.ac_automaton.specs.Iterators.{FindsBy, GoesOn, KeepsInput, MayFindIn, WalksBy, after, search_by};
+ghost use Rattle.ac_automaton.specs.Iterators.{FindsBy, GoesOn, KeepsInput, MayFindIn, WalksBy, after, reads_past, search_by};
 
 use super::Automaton;
 use super::find::Finder;
+use super::onward::Onward;
 use ac_util::error::MatchError;
 use ac_util::looks::{Looks, Tape, open};
 use ac_util::search::{Input, Match, Span};
@@ -16,13 +17,20 @@ use std::snapshot::Snapshot;
 /// An iterator over the matches of an input that don't overlap, made by `Automaton::try_find_iter`.
 ///
 /// After the last match it keeps returning `None`. Contracts see the matches still to come, and what was read and
-/// counted since it was made. For each match it makes one find, or two where the first finds an empty match again at
-/// the end of the match before. Under `MatchKind::Standard`, or with `earliest`, it reads each byte at most once on the
-/// whole; else each find reads a new tape from where the match before it ended, since a leftmost one may have read past
-/// the end of what it picked.
+/// counted since it was made.
+///
+/// Under `MatchKind::Standard`, or with `earliest`, it makes one find for each match, or two where the first finds an
+/// empty match again at the end of the match before. These read each byte at most once on the whole.
+///
+/// Under a leftmost kind a search may have to read past the end of the match that it picks. An unanchored walk by patterns
+/// none of which is empty goes on from where that has come to: the automaton's commits say which matches lie in the bytes
+/// that were read, so each byte is read at most once on the whole. Any other leftmost walk makes one find for each match,
+/// or two, and each reads on from where the match before it ended.
 #[derive(Drop)]
 pub struct FindIter<'a, 'h, A: Automaton> {
     search: TapedFinder<'a, 'h, A>,
+    /// Where the walk reads each byte once.
+    onward: Option<Onward<'a, A>>,
     /// What is left of the span.
     span: Span,
     /// Where the match before this ended.
@@ -34,7 +42,8 @@ pub struct FindIter<'a, 'h, A: Automaton> {
 impl<'a, 'h, A: Automaton> Model for FindIter<'a, 'h, A> {
     ghost use Rattle.std.specs.Prelude.{◌≡◌, ◌<◌, ◌≤◌, length};
     ghost use Rattle.ac_automaton.specs.Util.{input_of, usize_max};
-    ghost use Rattle.ac_automaton.specs.Iterators.{IsUnderWay, Walking, walking_of};
+    ghost use Rattle.ac_automaton.specs.Iterators.{Walking, walking_of};
+    ghost use Rattle.ac_automaton.specs.Onward.{IsKept};
     ghost use Rattle.ac_automaton.specs.Scans.{work_of};
 
     ghost Value = { Walking };
@@ -46,8 +55,7 @@ impl<'a, 'h, A: Automaton> Model for FindIter<'a, 'h, A> {
       whole : s.search.tape.bytes ≡ (input_of s.search.input).haystack;
       inside : s.span.end ≤ length s.search.tape.bytes;
       small : s.span.end < usize_max;
-      under_way : IsUnderWay (walking_of s.search.finder s.search.tape.bytes s.span s.last s.from.value
-          (work_of s.search.tape s.search.looks));
+      kept : IsKept A.seen s.search.finder s.search.tape s.span s.last s.from.value s.search.looks s.onward;
     } };
 }
 
@@ -60,6 +68,7 @@ impl<'a, 'h, A: Automaton> FindIter<'a, 'h, A> {
         let finder = Finder::new(automaton, input.get_anchored(), input.get_earliest())?;
         let (tape, looks) = open(&input);
         let span = input.get_span();
+        let onward = finder.onward(span.start);
         Ok(FindIter {
             search: TapedFinder {
                 finder,
@@ -67,6 +76,7 @@ impl<'a, 'h, A: Automaton> FindIter<'a, 'h, A> {
                 tape,
                 looks,
             },
+            onward,
             span,
             last: None,
             from: Snapshot::of(&span.start),
@@ -78,7 +88,34 @@ impl<'a, 'h, A: Automaton> FindIter<'a, 'h, A> {
     fn advance(&mut self) -> Option<Match>
         ensures { GoesOn self.old result self.new }
     {
+        if self.onward.is_some() {
+            return self.advance_past();
+        }
         let found = self.search.next_left(self.span, self.last);
+        self.span.start = after(self.span, &found);
+        if let Some(found) = &found {
+            self.last = Some(found.end());
+        }
+        found
+    }
+
+    /// Returns the next match of a walk that reads on past its matches, and moves on. It opens a new tape, of which it reads
+    /// only what comes after the bytes that the walk has read.
+    #[inline]
+    fn advance_past(&mut self) -> Option<Match>
+        requires past { reads_past self.old ≡ true }
+        ensures { GoesOn self.old result self.new }
+    {
+        if self.span.start > self.span.end {
+            return None;
+        }
+        let Some(onward) = &mut self.onward else {
+            return None;
+        };
+        let search = &mut self.search;
+        let (tape, _) = open(&search.input);
+        search.tape = tape;
+        let found = onward.next(self.span, &mut search.tape, &mut search.looks);
         self.span.start = after(self.span, &found);
         if let Some(found) = &found {
             self.last = Some(found.end());

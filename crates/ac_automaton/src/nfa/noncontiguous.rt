@@ -3,10 +3,10 @@ ghost use Rattle.std.specs.Prelude.{◌≡◌, ◌≢◌, IfSome, List, None};
 ghost use Rattle.std.proofs.Common.{inr, refl};
 ghost use Rattle.ac_automaton.specs.Util.{bytes_of, Node};
 ghost use Rattle.ac_automaton.specs.Builds.{BuildsNoncontiguous, usual_engine_settings};
-ghost use Rattle.ac_automaton.specs.Tries.{IsRoot, IsTrie, IsTrieState, listed_within, stands-lists};
+ghost use Rattle.ac_automaton.specs.Tries.{automaton_of, IsRoot, IsTrie, stands-lists};
 ghost use Rattle.ac_automaton.specs.declared.nfa.noncontiguous.state.State.{State};
 
-use crate::automaton::{Automaton, Common, MatchRest};
+use crate::automaton::{Automaton, Commits, Common, MatchRest};
 use ac_util::error::{BuildError, MatchError};
 use ac_util::looks::Looks;
 use ac_util::primitives::{PatternID, StateID};
@@ -19,6 +19,7 @@ use std::marker::Model;
 use std::mem::size_of;
 
 mod builder;
+mod commits;
 mod growth;
 mod lists;
 mod readers;
@@ -46,12 +47,14 @@ pub struct NFA<A: Allocator = Global> {
     lists: TrieLists<A>,
     /// Where an unanchored search goes on from the start, for each byte.
     root: Vec<StateID, A>,
+    commits: Commits<A>,
 }
 
 impl<A: Allocator> Model for NFA<A> {
     ghost use Rattle.std.specs.Prelude.{List};
     ghost use Rattle.ac_util.specs.Node.{Node};
-    ghost use Rattle.ac_automaton.specs.Tries.{IsRoot, IsTrie, Trie, trie_of};
+    ghost use Rattle.ac_automaton.specs.Commits.{HasCommits};
+    ghost use Rattle.ac_automaton.specs.Tries.{automaton_of, IsRoot, IsTrie, Trie, trie_of};
 
     ghost Value = { Trie };
 
@@ -61,6 +64,8 @@ impl<A: Allocator> Model for NFA<A> {
       is_trie : (nodes : List Node) × IsTrie
           (trie_of n.common n.lists.order.items n.lists.transitions.items n.lists.states.items) nodes;
       rooted : IsRoot n.lists.transitions.items n.lists.states.items n.root.items;
+      committed : HasCommits (automaton_of (trie_of n.common n.lists.order.items n.lists.transitions.items
+          n.lists.states.items)) n.commits;
     } };
 }
 
@@ -84,6 +89,7 @@ impl<A: Allocator + Clone> Clone for NFA<A> {
             common: self.common.clone()?,
             lists: self.lists.clone()?,
             root: self.root.clone()?,
+            commits: self.commits.clone()?,
         })
     }
 }
@@ -164,13 +170,7 @@ impl<A: Allocator> Automaton for NFA<A> {
 
     ghost LOOKS = { 2 };
 
-    ghost seen = { λ n. record {
-      built = n.built;
-      most = 2;
-      wants_prefilter = n.wants_prefilter;
-      stands = λ anchored s u. IsTrieState n s u;
-      listed = λ s. listed_within n.order n.states s s;
-    } };
+    ghost seen = { automaton_of };
 
     ghost one_or_two = { inr refl };
 
@@ -230,6 +230,11 @@ impl<A: Allocator> Automaton for NFA<A> {
         &self.common
     }
 
+    #[inline]
+    fn commits(&self) -> &Commits<A> {
+        &self.commits
+    }
+
     fn memory_usage(&self) -> usize {
         let lists = &self.lists;
         let states = lists.states.len().saturating_mul(size_of::<State>());
@@ -243,6 +248,7 @@ impl<A: Allocator> Automaton for NFA<A> {
             .saturating_add(transitions)
             .saturating_add(order)
             .saturating_add(root)
+            .saturating_add(self.commits.memory_usage())
             .saturating_add(self.patterns().memory_usage())
     }
 }

@@ -14,6 +14,7 @@ use super::fill::Filler;
 use super::layout::{Layout, table_rows};
 use super::{DEAD, DFA};
 use crate::classes::classes_for;
+use crate::commits::renumbered;
 use ac_automaton::automaton::Automaton;
 use ac_automaton::nfa::noncontiguous::{self, NFA};
 use ac_util::alphabet::ByteClasses;
@@ -207,7 +208,8 @@ impl Builder {
             stride: classes.stride(),
             numbers: &layout.numbers,
         };
-        let table = filled_table(alloc, &filler, len as usize)?;
+        let table = filled_table(alloc.clone()?, &filler, len as usize)?;
+        let commits = renumbered(alloc, nfa.commits(), &layout.numbers)?;
         Ok(DFA {
             common: nfa.common().clone()?,
             start_kind: self.start_kind,
@@ -215,6 +217,7 @@ impl Builder {
             stride2,
             table,
             lists: layout.lists,
+            commits,
             start: start_of(self.start_kind, Anchored::No, stride2),
             anchored_start: start_of(self.start_kind, Anchored::Yes, stride2),
             first_match: layout.first_match,

@@ -4,11 +4,11 @@ ghost use Rattle.std.proofs.Common.{inr, refl};
 ghost use Rattle.ac_util.specs.declared.search.Anchored.{Anchored};
 ghost use Rattle.ac_util.specs.Patterns.{bytes_of};
 ghost use Rattle.ac_automaton.specs.Prelude.{IsState};
-ghost use Rattle.ac_engines.specs.Contiguous.{IsContiguous, IsContiguousState, Places, match_list_at};
+ghost use Rattle.ac_engines.specs.Contiguous.{IsContiguous, IsContiguousState, Places, contiguous_automaton};
 ghost use Rattle.ac_engines.specs.Contiguous.Builds.{BuildsContiguous, usual_contiguous_settings};
 ghost use Rattle.ac_engines.specs.Listed.{contiguous-lists};
 
-use ac_automaton::automaton::{Automaton, Common, MatchRest};
+use ac_automaton::automaton::{Automaton, Commits, Common, MatchRest};
 use ac_automaton::nfa::noncontiguous::DEAD;
 use ac_util::alphabet::ByteClasses;
 use ac_util::error::{BuildError, MatchError};
@@ -54,6 +54,7 @@ pub struct NFA<A: Allocator = Global> {
     /// States of strings shorter than this are dense.
     dense_depth: usize,
     words: Vec<u32, A>,
+    commits: Commits<A>,
     start: StateID,
     anchored_start: StateID,
     /// No state with this number or a greater one has matches.
@@ -61,15 +62,20 @@ pub struct NFA<A: Allocator = Global> {
 }
 
 impl<A: Allocator> Model for NFA<A> {
-    ghost use Rattle.ac_engines.specs.Contiguous.{ContiguousView, IsContiguous, Places, contiguous_of};
+    ghost use Rattle.ac_automaton.specs.Commits.{HasCommits};
+    ghost use Rattle.ac_engines.specs.Contiguous.{ContiguousView, IsContiguous, Places, contiguous_automaton, contiguous_of};
 
     ghost Value = { ContiguousView };
 
     ghost view = { λ n. contiguous_of n.common n.dense_depth n.classes n.words.items n.start n.anchored_start
         n.match_end };
 
-    ghost invariant = { λ n. (at : Places) × IsContiguous (contiguous_of n.common n.dense_depth n.classes n.words.items
-        n.start n.anchored_start n.match_end) at };
+    ghost invariant = { λ n. record {
+      is_contiguous : (at : Places) × IsContiguous (contiguous_of n.common n.dense_depth n.classes n.words.items n.start
+          n.anchored_start n.match_end) at;
+      committed : HasCommits (contiguous_automaton (contiguous_of n.common n.dense_depth n.classes n.words.items n.start
+          n.anchored_start n.match_end)) n.commits;
+    } };
 }
 
 /// Shown as `NFA { match_kind: Standard, patterns: 3 }`.
@@ -91,6 +97,7 @@ impl<A: Allocator + Clone> Clone for NFA<A> {
         Ok(NFA {
             common: self.common.clone()?,
             words: self.words.clone()?,
+            commits: self.commits.clone()?,
             ..*self
         })
     }
@@ -146,13 +153,7 @@ impl<A: Allocator> Automaton for NFA<A> {
 
     ghost LOOKS = { 2 };
 
-    ghost seen = { λ n. record {
-      built = n.built;
-      most = 2;
-      wants_prefilter = n.wants_prefilter;
-      stands = λ anchored s u. IsContiguousState n anchored s u;
-      listed = λ s. match_list_at n s;
-    } };
+    ghost seen = { contiguous_automaton };
 
     ghost one_or_two = { inr refl };
 
@@ -225,9 +226,16 @@ impl<A: Allocator> Automaton for NFA<A> {
         &self.common
     }
 
+    #[inline]
+    fn commits(&self) -> &Commits<A> {
+        &self.commits
+    }
+
     fn memory_usage(&self) -> usize {
         let words = self.words.len().saturating_mul(size_of::<u32>());
-        words.saturating_add(self.common.patterns().as_ref().memory_usage())
+        words
+            .saturating_add(self.commits.memory_usage())
+            .saturating_add(self.common.patterns().as_ref().memory_usage())
     }
 }
 

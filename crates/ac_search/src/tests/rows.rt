@@ -165,6 +165,30 @@ const LEFTMOST_WALKS: &[Row] = &[
     (FIRST, PREFIXES, b"abcd", &[(1, 0, 3)]),
     (LONGEST, PREFIXES, b"abcd", &[(2, 0, 4)]),
     (
+        LONGEST,
+        &[b"a", b"b", b"abcabcabd"],
+        b"abcabcabcabcabd",
+        &[(0, 0, 1), (1, 1, 2), (0, 3, 4), (1, 4, 5), (2, 6, 15)],
+    ),
+    (
+        FIRST,
+        &[b"abcabcabd", b"a", b"b"],
+        b"abcabcabcabcabd",
+        &[(1, 0, 1), (2, 1, 2), (1, 3, 4), (2, 4, 5), (0, 6, 15)],
+    ),
+    (
+        FIRST,
+        &[b"aaaab", b"aa", b"a"],
+        b"aaaaaaaabaaa",
+        &[(1, 0, 2), (1, 2, 4), (0, 4, 9), (1, 9, 11), (2, 11, 12)],
+    ),
+    (
+        LONGEST,
+        &[b"ab", b"bc", b"cabc", b"abcabcx"],
+        b"abcabcabcabcx",
+        &[(0, 0, 2), (2, 2, 6), (3, 6, 13)],
+    ),
+    (
         FIRST,
         WORDS,
         SENTENCE,

@@ -4,6 +4,7 @@ ghost use Rattle.ac_util.specs.Patterns.{bytes_of};
 ghost use Rattle.ac_automaton.specs.Builds.{BuildsNoncontiguous, usual_engine_settings};
 
 use super::NFA;
+use super::commits::commits_of;
 use super::lists::TrieLists;
 use super::root::root_of;
 use crate::automaton::Common;
@@ -134,10 +135,12 @@ impl Builder {
         let lists = TrieLists::of(&patterns, self.kind, self.ignores_case)?;
         let root = root_of(patterns.allocator().clone()?, lists.slices())?;
         let common = Common::new(patterns, self.kind, self.ignores_case, self.prefilter)?;
+        let commits = commits_of(&common, &lists)?;
         Ok(NFA {
             common,
             lists,
             root,
+            commits,
         })
     }
 }

@@ -106,6 +106,16 @@ fn target_among(own: &[Transition], byte: u8) -> Option<StateID>
     }
 }
 
+/// Returns the transitions of a state.
+#[inline]
+pub(super) fn own_transitions<'a>(state: &State, transitions: &'a [Transition]) -> &'a [Transition]
+    requires ordered { state.now.transitions ≤ state.now.transitions_end }
+    requires listed { state.now.transitions_end ≤ length transitions.now }
+    ensures { result.now ≡ transitions_of transitions.now state.now }
+{
+    &transitions[state.transitions as usize..state.transitions_end as usize]
+}
+
 /// Returns the state to which a byte leads, if there is a transition by it.
 #[inline]
 fn target(state: &State, transitions: &[Transition], byte: u8) -> Option<StateID>
@@ -115,8 +125,7 @@ fn target(state: &State, transitions: &[Transition], byte: u8) -> Option<StateID
         (transition_bytes (transitions_of transitions.now state.now)) }
     ensures { IsTarget (transitions_of transitions.now state.now) byte result }
 {
-    let own = &transitions[state.transitions as usize..state.transitions_end as usize];
-    target_among(own, byte)
+    target_among(own_transitions(state, transitions), byte)
 }
 
 /// Returns the state to which a byte leads, if there is a transition by it, and counts the look at the state.

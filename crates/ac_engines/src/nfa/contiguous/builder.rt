@@ -9,6 +9,7 @@ use super::format::check_words;
 use super::pack::Packer;
 use super::plan::Plan;
 use crate::classes::classes_for;
+use crate::commits::renumbered;
 use ac_automaton::automaton::Automaton;
 use ac_automaton::nfa::noncontiguous::{self, ANCHORED_START, START};
 use ac_util::error::BuildError;
@@ -210,12 +211,14 @@ impl Builder {
             plan: &plan,
             numbers: &numbers.list,
         };
-        let words = packer.pack(alloc, len as usize)?;
+        let words = packer.pack(alloc.clone()?, len as usize)?;
+        let commits = renumbered(alloc, nfa.commits(), &numbers.list)?;
         Ok(NFA {
             common: nfa.common().clone()?,
             classes,
             dense_depth: self.dense_depth,
             words,
+            commits,
             start: numbers.list[START],
             anchored_start: numbers.list[ANCHORED_START],
             match_end: match_end as usize,

@@ -38,14 +38,17 @@ invariant_of-self-then-self-n g c =
     let at = c.self.inside.filled in
     let n = c.in-Ok.n in
     let took = c.in-Ok.ensures.reads in
-    streams-filled _ _ _ c.self.invariant (opens g d) (buffer g d) (as_long g d) (keeps g d) n
-    (take n (drop at c.read_after.new.buffer)) (ap (λ (b : List ℕ). take n (drop at b)) (sym (whole g d)))
-    (subst (λ (b : List ℕ). n ≤ length (drop at b)) (sym (whole g d)) took.within)
-    (let w = took.within in let d = length-drop at c.read_after.new.buffer in omega (arith, c.if-self-n.true)) _
-    (c.with-self-inside.ensures
-    ∙ ap (λ (w : List ℕ). c.self.inside.history.bytes ++ w)
-    (ap (λ (k : ℕ). take k (drop at c.deref.result.now)) (let e : at + n - at ≡ n = omega arith in e)
-    ∙ ap (λ (b : List ℕ). take n (drop at b)) (c.deref.ensures.value ∙ whole g d)))
+    record {
+      commits = c.self.invariant.commits;
+      streams = streams-filled _ _ _ _ c.self.invariant.streams (opens g d) (buffer g d) (as_long g d) (keeps g d) n
+          (take n (drop at c.read_after.new.buffer)) (ap (λ (b : List ℕ). take n (drop at b)) (sym (whole g d)))
+          (subst (λ (b : List ℕ). n ≤ length (drop at b)) (sym (whole g d)) took.within)
+          (let w = took.within in let d = length-drop at c.read_after.new.buffer in omega (arith, c.if-self-n.true)) _
+          (c.with-self-inside.ensures
+          ∙ ap (λ (w : List ℕ). c.self.inside.history.bytes ++ w)
+          (ap (λ (k : ℕ). take k (drop at c.deref.result.now)) (let e : at + n - at ≡ n = omega arith in e)
+          ∙ ap (λ (b : List ℕ). take n (drop at b)) (c.deref.ensures.value ∙ whole g d)));
+    }
 
 pub returns-in-Ok-2 : goal.returns-in-Ok-2
 returns-in-Ok-2 g c =
@@ -80,33 +83,42 @@ returns-in-Ok g c =
       same = filled-as c.args.self.now c.make_room.new.self _ c.self.view_is c.make_room.ensures.same _
           (as_long g d) _ more added;
       small = (let l = ap length added ∙ length-append c.self.inside.history.bytes more in
-          let k = c.self.invariant.counted in let w = took.within in
+          let k = c.self.invariant.streams.counted in let w = took.within in
           let d = length-drop at c.read_after.new.buffer in omega (arith, c.if-self-n.true));
       given = ap (λ (k : ℕ). take k (stream_result (g.A.Automaton.seen c.self.inside.automaton.now).built c.with-self-inside.result.bytes))
           (sym (ap (λ (v : Streaming). v.given) e))
           ∙ ap (λ (w : List ℕ). take c.self.inside.given.number
           (stream_result (g.A.Automaton.seen c.self.inside.automaton.now).built w)) added
-          ∙ given-stays _ _ _ c.self.invariant more (λ ended. absurd (let no' = sym (opens g d) ∙ ended in cc))
+          ∙ given-stays _ _ _ _ c.self.invariant.streams more (λ ended. absurd (let no' = sym (opens g d) ∙ ended in cc))
           ∙ ap (λ (v : Streaming). take v.given (matches_so_far v)) e;
     }
 
 pub invariant_of-self : goal.invariant_of-self
 invariant_of-self g c =
     let d = (goal.at.invariant_of-self g c).After-read_after in
-    streams-ended _ _ _ c.self.invariant (opens g d) _ (as_long g d) (keeps g d)
-    (settled-as _ _ _ c.self.view_is c.make_room.ensures.same c.requires.settled)
+    record {
+      commits = c.self.invariant.commits;
+      streams = streams-ended _ _ _ _ c.self.invariant.streams (opens g d) _ (as_long g d) (keeps g d)
+          (settled-as _ _ _ c.self.view_is c.make_room.ensures.same c.requires.settled);
+    }
 
 pub invariant_of-self-in-Ok-2 : goal.invariant_of-self-in-Ok-2
 invariant_of-self-in-Ok-2 g c =
     let d = (goal.at.invariant_of-self-in-Ok-2 g c).After-read_after in
-    streams-failed _ _ _ c.self.invariant (opens g d) _ (as_long g d) (keeps g d)
-    (settled-as _ _ _ c.self.view_is c.make_room.ensures.same c.requires.settled)
+    record {
+      commits = c.self.invariant.commits;
+      streams = streams-failed _ _ _ _ c.self.invariant.streams (opens g d) _ (as_long g d) (keeps g d)
+          (settled-as _ _ _ c.self.view_is c.make_room.ensures.same c.requires.settled);
+    }
 
 pub invariant_of-self-in-Err : goal.invariant_of-self-in-Err
 invariant_of-self-in-Err g c =
     let d = (goal.at.invariant_of-self-in-Err g c).After-read_after in
-    streams-failed _ _ _ c.self.invariant (opens g d) _ (as_long g d) (keeps g d)
-    (settled-as _ _ _ c.self.view_is c.make_room.ensures.same c.requires.settled)
+    record {
+      commits = c.self.invariant.commits;
+      streams = streams-failed _ _ _ _ c.self.invariant.streams (opens g d) _ (as_long g d) (keeps g d)
+          (settled-as _ _ _ c.self.view_is c.make_room.ensures.same c.requires.settled);
+    }
 
 pub returns-in-Err : goal.returns-in-Err
 returns-in-Err g c =

@@ -37,10 +37,13 @@ invariant_of-result g c =
           w.matches-is
           ∙ sym (ap not (not-leftmost kind (λ standard. w.in_default.not-Standard (c.match_kind.ensures ∙ standard))))
     ] in
-    streams-begin _ _ allowed c.in_ok-start.start c.in_ok-start.ensures.1 _ (long g c)
-    (let ok = c.resize.new.self.ok in let small = c.resize.new.self.small in omega arith) _ _ _ _ _ stops
-    (c.most_kept.ensures ∙ most-kept (g.A.Automaton.seen c.args.automaton.now).built _ _ stops c.max_pattern_len-longest.ensures)
-    c.of.ensures c.zero.ensures c.empty.ensures
+    record {
+      commits = c.commits.ensures;
+      streams = streams-begin _ _ _ allowed c.in_ok-start.start c.in_ok-start.ensures.1 _ (long g c)
+          (let ok = c.resize.new.self.ok in let small = c.resize.new.self.small in omega arith) _ _ _ _ _ stops
+          (c.most_kept.ensures ∙ most-kept (g.A.Automaton.seen c.args.automaton.now).built _ _ stops c.max_pattern_len-longest.ensures)
+          c.of.ensures c.zero.ensures c.empty.ensures;
+    }
 
 pub returns : goal.returns
 returns g c = search (rules, long, not-refused)

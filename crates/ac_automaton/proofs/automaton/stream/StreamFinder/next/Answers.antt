@@ -1,8 +1,9 @@
-use Rattle.std.proofs.Common.{length-append, arith, rules}
+use Rattle.std.proofs.Common.{Bool, MatchBool, length-append, subst, arith, rules}
 use Rattle.std.proofs.lemmas.List.{append-nil}
 use Rattle.std.proofs.lemmas.Grind.{common_steps}
 use Rattle.ac_util.proofs.Devices.{fails-on}
-use Rattle.ac_automaton.proofs.StreamEnds.{gives-last}
+use Rattle.ac_automaton.specs.Prelude.{FillsMore, MeetsEnd}
+use Rattle.ac_automaton.proofs.StreamEnds.{ended-then, gives-last}
 use Rattle.ac_automaton.proofs.StreamFilling.{failed-as}
 use Rattle.ac_automaton.proofs.automaton.stream.StreamFinder.next.Goals as goal
 
@@ -24,7 +25,15 @@ pub loop-found-smaller : goal.loop-found-smaller
 loop-found-smaller g c = grind (arith, common_steps)
 
 pub returns-in-Ok-false : goal.returns-in-Ok-false
-returns-in-Ok-false g c = grind (arith, common_steps)
+returns-in-Ok-false g c =
+    let told = g.R.Source.told in let l = c.loop-found.invariant in
+    ended-then g.R.Source.empty_means_end c.args.self.now c.loop-found.self c.next_read.new.self c.fill.new.self
+    c.next_at_end-in-Ok-false.new.self (told c.args.reader.now) (told c.loop-found.reader) (told c.fill.new.reader) l.more l.same l.goes_on
+    l.reads c.in_default.ensures
+    (subst (λ (b : Bool). MatchBool b
+    (FillsMore c.next_read.new.self c.fill.new.self (told c.loop-found.reader) (told c.fill.new.reader))
+    (MeetsEnd g.R.Source.empty_means_end c.next_read.new.self c.fill.new.self (told c.loop-found.reader) (told c.fill.new.reader)))
+    c.in-Ok-false.field-0-test c.in-Ok-false.ensures) l.small l.given c.next_at_end-in-Ok-false.result c.next_at_end-in-Ok-false.ensures
 
 pub returns-in-Some : goal.returns-in-Some
 returns-in-Some g c = grind (arith, common_steps)

@@ -2,10 +2,10 @@ use Rattle.std.proofs.Common.{◌≡◌}
 use Rattle.std.proofs.lemmas.List.Elements.{same_from_all_zip}
 use Rattle.ac_automaton.proofs.nfa.noncontiguous.NFAClone.clone.Given.{Over}
 use Rattle.ac_automaton.proofs.nfa.noncontiguous.NFAClone.clone.Goals as goal
-use Rattle.ac_automaton.proofs.nfa.noncontiguous.NFAClone.clone.Goals.{In_ok-clone-3}
+use Rattle.ac_automaton.proofs.nfa.noncontiguous.NFAClone.clone.Goals.{In_ok-clone-4}
 
 -- the lists of the copy are those of the automaton
-module _ (g : Over) (c : In_ok-clone-3 g) where
+module _ (g : Over) (c : In_ok-clone-4 g) where
   order : c.in_ok-clone-2.field-0.order.items ≡ c.self.inside.lists.order.items
   order = same_from_all_zip _ c.self.inside.lists.order.items c.in_ok-clone-2.field-0.order.items
       c.in_ok-clone-2.ensures.cases.0.0 (λ x y same. cc)
@@ -24,7 +24,7 @@ module _ (g : Over) (c : In_ok-clone-3 g) where
 
 pub invariant_of-result : goal.invariant_of-result
 invariant_of-result g c =
-    rw (c.in_ok-clone.ensures.cases, order g c, transitions g c, states g c, root g c) c.self.invariant
+    rw (c.in_ok-clone.ensures.cases, order g c, transitions g c, states g c, root g c, c.in_ok-clone-4.ensures.cases) c.self.invariant
 
 pub returns : goal.returns
 returns g c =

@@ -1,7 +1,11 @@
-use Rattle.std.proofs.Common.{◌≡◌, ◌∙◌}
+use Rattle.std.proofs.Common.{◌≡◌, ◌∙◌, ℕ, List, refl, subst}
 use Rattle.ac_automaton.specs.Automata.{common_of}
+use Rattle.ac_automaton.specs.Prelude.{AreNodes}
+use Rattle.ac_automaton.specs.Util.{Node}
+use Rattle.ac_engines.specs.Commits.{AreRenumbered}
 use Rattle.ac_engines.specs.Dfa.Filling.{first_row_in}
 use Rattle.ac_engines.proofs.Assembled.{are-table, has-matches-among, may-fill, planned}
+use Rattle.ac_engines.proofs.EngineCommits.{dfa-commits}
 use Rattle.ac_engines.proofs.dfa.builder.Builder.build_from_noncontiguous.Goals as goal
 
 -- the rows that were laid out can be filled
@@ -26,23 +30,28 @@ invariant_of-result g c =
     c.classes_for-classes.ensures.value c.stride2-stride2.ensures.value c.stride.ensures c.in_ok-len.ensures.len.0 c.in_ok-len.ensures.len.1 in
     let layout = c.in_ok-layout.layout in
     let laid = c.in_ok-layout.ensures nodes.0 nodes.1 in
-    let may = may-fill c.args.nfa.now c.self.inside.start_kind c.classes_for-classes.result c.stride2-stride2.result
-    layout.numbers.items nodes.0 _ layout.lists layout.first_match layout.match_end plan.has nodes.1 laid plan.few in
-    let filled = rw (plan.width_is, c.deref.ensures.value, plan.len_is) at (c.in_ok-table.ensures.filled nodes.0) in
-    let common : c.in_ok-clone-2.field-0 ≡ common_of c.args.nfa.now.built c.args.nfa.now.wants_prefilter =
-    c.in_ok-clone-2.ensures.cases ∙ c.common.ensures in
+    let may = λ (ns : List Node) (are : AreNodes c.args.nfa.now ns).
+    may-fill c.args.nfa.now c.self.inside.start_kind c.classes_for-classes.result c.stride2-stride2.result
+    layout.numbers.items ns _ layout.lists layout.first_match layout.match_end plan.has are (c.in_ok-layout.ensures ns are) plan.few in
+    let filled = rw (plan.width_is, c.deref.ensures.value, plan.len_is) at c.in_ok-table.ensures.filled in
+    let is = λ (ns : List Node) (are : AreNodes c.args.nfa.now ns).
+    are-table
+    c.args.nfa.now c.self.inside.start_kind c.classes_for-classes.result c.stride2-stride2.result
+    layout.numbers.items ns _ (may ns are) c.in_ok-table.table.items layout.lists layout.first_match layout.match_end
+    (filled ns (may ns are)) (c.in_ok-layout.ensures ns are) in
+    let common : c.in_ok-clone-3.field-0 ≡ common_of c.args.nfa.now.built c.args.nfa.now.wants_prefilter =
+    c.in_ok-clone-3.ensures.cases ∙ c.common.ensures in
     rw common (record {
-      is_dfa = (
-        first_row_in nodes.0 layout.numbers.items,
-        are-table
-            c.args.nfa.now c.self.inside.start_kind c.classes_for-classes.result c.stride2-stride2.result
-            layout.numbers.items nodes.0 _ may c.in_ok-table.table.items layout.lists layout.first_match layout.match_end
-            (filled may) laid,
-      );
+      is_dfa = (first_row_in nodes.0 layout.numbers.items, is nodes.0 nodes.1);
       few = c.stride2-stride2.ensures.small;
       start = c.start_of.ensures;
       anchored_start = c.start_of-2.ensures;
       among = has-matches-among c.args.nfa.now
           c.self.inside.start_kind c.classes_for-classes.result c.stride2-stride2.result layout.numbers.items nodes.0 _
-          may c.in_ok-table.table.items layout.lists layout.first_match layout.match_end (filled may) laid;
+          (may nodes.0 nodes.1) c.in_ok-table.table.items layout.lists layout.first_match layout.match_end
+          (filled nodes.0 (may nodes.0 nodes.1)) laid;
+      committed = dfa-commits _ _ _ refl nodes.0 nodes.1 (λ ns are. record { may = may ns are; is = is ns are }) _ _
+          (subst (λ (numbers : List ℕ). AreRenumbered numbers c.commits.result.now c.in_ok-commits.commits)
+          c.deref-2.ensures.value c.in_ok-commits.ensures)
+          c.commits.ensures;
     })

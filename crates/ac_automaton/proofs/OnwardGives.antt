@@ -1,0 +1,288 @@
+-- What a walk gives that reads each byte once, and that it goes on from there.
+use Rattle.std.proofs.Common.{◌≡◌, ◌⊎◌, ℕ, ◌+◌, ◌-◌, ◌*◌, ◌<◌, ◌≤◌, ◌==◌, if◌then◌else◌, Bool, true, false, List, [], ◌∷◌, length, drop, map, slice_get, slice_index, refl, ap, sym, ◌∙◌, subst, arith, Option, None, Some, IfSome, MatchOption, option_map, inl, inr}
+use Rattle.std.proofs.Math.Seq.{drop-length}
+use Rattle.std.proofs.lemmas.Grind.{common_steps}
+use Rattle.ac_util.specs.Prelude.{step}
+use Rattle.ac_util.specs.Commits.{standing_at, IsPickIn, IsSearchFor, Commits, Anything, StandsAfter}
+use Rattle.ac_automaton.specs.Util.{Counts, credit, No, Occurrence, pattern_of, plain_byte, Search, usize_max}
+use Rattle.ac_util.proofs.Commits.{commits-nil}
+use Rattle.ac_util.proofs.NodeCommits.{node-paid, node-shorter}
+use Rattle.ac_util.proofs.NodePicks.{match-picked}
+use Rattle.ac_util.proofs.Onward.{byte_at}
+use Rattle.ac_automaton.specs.Prelude.{AutomatonView, Cursor, matches_of, place_of, plain_of, search_of, step_of, Work}
+use Rattle.ac_automaton.specs.Commits.{chain_at, ending_in, IsCommit, reads_on}
+use Rattle.ac_automaton.specs.Onward.{chain_of, HasCounted, HasGiven, HasStopped, in_hand, IsCounted, IsGiven, IsOnward, IsRestBefore, MayTakeFrom, pending, TakesKnown, tried}
+use Rattle.ac_automaton.specs.declared.automaton.commits.ChainMatch.{ChainMatch}
+use Rattle.ac_automaton.specs.declared.automaton.commits.Commit.{Commit}
+use Rattle.ac_automaton.specs.declared.automaton.onward.ChainRest.{ChainRest}
+use Rattle.ac_automaton.specs.declared.automaton.onward.Given.{Given}
+use Rattle.ac_automaton.proofs.OnwardSteps.{on-leftmost, on-some}
+use Rattle.ac_automaton.proofs.PastGives.{ends-there, goes-known, goes-on, has-bytes, known-high, known-numbered, known-onward, known-within, never-dead, next, numbered, onward, pattern-within, picks-first, picks-known, rest-within}
+
+module _ (a : AutomatonView) (on : reads_on a.built ≡ true) (chains : List (List ChainMatch)) where
+  -- a state with matches gives the first of them, and goes on at the start
+  pub given-match : {start s p : ℕ} (u : List ℕ) → a.stands No start (Some []) → a.listed s ≡ matches_of a.built No (Some u)
+      → slice_get (a.listed s) 0 ≡ Some p → IsGiven a chains u (record { pattern = p; rest = 0; next = start; chain = None })
+  given-match {start} {s} {p} u starts lists first = by (a.listed s) lists first
+    where
+      by : (listed : List ℕ) → listed ≡ matches_of a.built No (Some u) → slice_get listed 0 ≡ Some p
+          → IsGiven a chains u (record { pattern = p; rest = 0; next = start; chain = None })
+      by [] is e = absurd (cc)
+      by (i ∷ others) is e =
+          let ends = match-picked a.built.kind (plain_of a.built) (on-leftmost a.built on) u i others (sym is) in
+          record {
+            picked = standing_at (plain_of a.built) i ends.start;
+            number = (let same : i ≡ p = cc in same);
+            rest = (let whole = ends.whole in omega arith);
+            chained = tt;
+            node = [];
+            stands = starts;
+            gives = record {
+              picked = ends.picked;
+              rest = subst (λ (w : List ℕ). Commits a.built.kind (plain_of a.built) w Anything [] [])
+                  (sym (ap (λ (k : ℕ). drop k u) ends.whole ∙ drop-length u))
+                  (commits-nil a.built.kind (plain_of a.built) (on-leftmost a.built on) (on-some a.built on));
+            };
+          }
+
+  -- and one with a commit what that says
+  pub given-commit : (u : List ℕ) (commit : Commit) → IsCommit a chains u commit
+      → IsGiven a chains u (record { pattern = commit.pattern; rest = commit.rest; next = commit.next; chain = Some commit.chain })
+  given-commit u commit is = record {
+    picked = is.picked;
+    number = is.number;
+    rest = is.rest;
+    chained = is.chained;
+    node = is.node;
+    stands = is.stands;
+    gives = is.gives;
+  }
+
+-- a shorter node is worth no more
+credit-shorter : (most : ℕ) (u v : List ℕ) → length u ≤ length v → credit most (Some u) ≤ credit most (Some v)
+credit-shorter most u v short = by (most == 1)
+  where
+    by : (t : Bool) → (if t then 0 else length u) ≤ (if t then 0 else length v)
+    by true = omega arith
+    by false = short
+
+-- what is counted, where a match is given that ends past the one before
+counted-given : {most : ℕ} {skips : Bool} {start to : ℕ} (here there hand low end tries : ℕ) {counts : Counts}
+    → IsCounted most skips start to (here + hand) (low - start + tries) counts → tries + there ≤ here + 1 → low < end
+    → start ≤ low → IsCounted most skips start to (there + hand) (end - start + 0) counts
+counted-given here there hand low end tries counted paid onward begun = grind (arith, common_steps)
+
+-- a walk has come no further than to the end of its span
+pub within-end : {at end place : ℕ} (bytes : List ℕ) (hand : Option ℕ) → at ≤ end
+    → IfSome hand (λ b. (at < end) × (b ≡ slice_index bytes at)) → place ≤ at + in_hand hand → place ≤ end
+within-end bytes None up h unread = omega arith
+within-end bytes (Some b) up h unread = let before = h.0 in omega arith
+
+-- a walk that reads on no further gives what is picked in its node
+module _ (a : AutomatonView) (on : reads_on a.built ≡ true) (chains : List (List ChainMatch)) (bytes : List ℕ)
+    (low end start : ℕ) (inside : end ≤ length bytes) {cursor : Cursor} {byte : Option ℕ} {work : Work}
+    (stopped : HasStopped a (search_of a.built No bytes low end) start cursor byte work) where
+  abbrev q : Search
+  q = search_of a.built No bytes low end
+
+  abbrev v : List ℕ
+  v = stopped.node
+
+  here : StandsAfter a.built.kind (plain_of a.built) q [] v cursor.at
+  here = stopped.stands.after
+
+  is : IsSearchFor (plain_of a.built) q
+  is = record { free = refl; ordered = (let w = here.within in let i = here.inside in omega arith); inside = inside; same = refl }
+
+  place-within : work.place ≤ end
+  place-within = within-end bytes byte here.inside stopped.stands.hand stopped.unread
+
+  -- the byte that comes leads to the dead node, or the span ends
+  over : (cursor.at ≡ end) ⊎ ((cursor.at < end) × (step a.built.kind (plain_of a.built) No (Some v) (byte_at q cursor.at) ≡ None))
+  over = by byte stopped.stands.hand stopped.over
+    where
+      by : (hand : Option ℕ) → IfSome hand (λ b. (cursor.at < end) × (b ≡ slice_index bytes cursor.at))
+          → MatchOption hand (cursor.at ≡ end) (λ b. step_of a.built No (Some v) b ≡ None)
+          → (cursor.at ≡ end) ⊎ ((cursor.at < end) × (step a.built.kind (plain_of a.built) No (Some v) (byte_at q cursor.at) ≡ None))
+      by None h ends = inl ends
+      by (Some b) h dead = inr (h.0, ap (λ (x : ℕ). step_of a.built No (Some v) x) (sym h.1) ∙ dead)
+
+  -- where nothing is picked in the node the walk has ended
+  pub given-none : IsPickIn a.built.kind (plain_of a.built) No v None → (rest : Option ChainRest) (new_cursor : Cursor) (new_byte : Option ℕ)
+      → HasGiven a chains q start None rest new_cursor new_byte work
+  given-none none rest new_cursor new_byte = by byte stopped.stands.hand stopped.over stopped.counted
+    where
+      by : (hand : Option ℕ) → IfSome hand (λ b. (cursor.at < end) × (b ≡ slice_index bytes cursor.at))
+          → MatchOption hand (cursor.at ≡ end) (λ b. step_of a.built No (Some v) b ≡ None)
+          → HasCounted a q start cursor hand v (tried a q start v hand) work.counts
+          → HasGiven a chains q start None rest new_cursor new_byte work
+      by None h ends counted = record {
+        answer = sym (ends-there a on chains q is refl v cursor.at here ends none);
+        place = place-within;
+        goes = grind (arith, common_steps, ends, counted);
+      }
+      by (Some b) h dead counted =
+          absurd (never-dead a on chains q is refl v cursor.at here h.0
+          (ap (λ (x : ℕ). step_of a.built No (Some v) x) (sym h.1) ∙ dead) none)
+
+  module _ (given : Given) (gives : IsGiven a chains v given) where
+    abbrev base : ℕ
+    base = cursor.at - given.rest
+
+    pub given-numbered : given.pattern < length a.built.patterns
+    given-numbered = numbered a on chains q is refl v cursor.at here given gives
+
+    pub given-rest : given.rest ≤ cursor.at
+    given-rest = rest-within a on chains q is refl v cursor.at here given gives
+
+    pub given-within : length (pattern_of a.built.patterns given.pattern) ≤ base
+    given-within = pattern-within a on chains q is refl v cursor.at here given gives
+
+    -- each look is paid
+    paid : tried a q start v byte + credit a.most (Some gives.node) ≤ credit a.most (Some v) + 1
+    paid = by byte stopped.stands.hand stopped.over
+      where
+        ns : List Occurrence
+        ns = map (ending_in a.built) (chain_of chains given.chain)
+
+        by : (hand : Option ℕ) → IfSome hand (λ b. (cursor.at < end) × (b ≡ slice_index bytes cursor.at))
+            → MatchOption hand (cursor.at ≡ end) (λ b. step_of a.built No (Some v) b ≡ None)
+            → tried a q start v hand + credit a.most (Some gives.node) ≤ credit a.most (Some v) + 1
+        by None h ends =
+            let short = node-shorter a.built.kind (plain_of a.built) (on-leftmost a.built on) (on-some a.built on) v gives.picked
+            ns gives.node Anything gives.gives in
+            let less = credit-shorter a.most gives.node v (omega arith) in omega arith
+        by (Some b) h dead =
+            node-paid a.built.kind (plain_of a.built) (on-leftmost a.built on) (on-some a.built on) v gives.picked
+            ns gives.node gives.gives (plain_byte a.built.ignores_case b)
+            (has-bytes a on chains q is refl v cursor.at here given gives) dead a.most
+
+    pub given-some : (rest : Option ChainRest)
+        → rest ≡ option_map (λ (number : ℕ). record { chain = number; index = 0; base = base }) given.chain
+        → HasGiven a chains q start (Some (place_of a.built base given.pattern)) rest (record { state = given.next; at = cursor.at }) byte work
+    given-some rest rest-is =
+        let onward = onward a on chains q is refl v cursor.at here given gives over in
+        record {
+          answer = sym (picks-first a on chains q is refl v cursor.at here given gives over);
+          place = place-within;
+          goes = (
+            sound rest rest-is,
+            record {
+              node = gives.node;
+              stands = record {
+                there = gives.stands;
+                after = goes-on a on chains q is refl v cursor.at here given gives over rest rest-is;
+                hand = stopped.stands.hand;
+              };
+              counted = counted-given (credit a.most (Some v)) (credit a.most (Some gives.node)) (a.most * in_hand byte) low base
+                  (tried a q start v byte) stopped.counted paid onward stopped.begun;
+              unread = stopped.unread;
+              begun = (let b = stopped.begun in omega arith);
+              ordered = (let r = given-rest in let h = here.inside in omega arith);
+            },
+          );
+        }
+      where
+        sound : (rest : Option ChainRest)
+            → rest ≡ option_map (λ (number : ℕ). record { chain = number; index = 0; base = base }) given.chain
+            → IsRestBefore chains base rest
+        sound rest e = subst (IsRestBefore chains base) (sym e) (by given.chain gives.chained)
+          where
+            by : (chain : Option ℕ) → IfSome chain (λ number. number < length chains)
+                → IsRestBefore chains base (option_map (λ (number : ℕ). record { chain = number; index = 0; base = base }) chain)
+            by None h = tt
+            by (Some number) h = (h, omega arith)
+
+-- what is counted, where a match is given that was known
+counted-known : {most : ℕ} {skips : Bool} {start to owed : ℕ} (low end : ℕ) {counts : Counts}
+    → IsCounted most skips start to owed (low - start + 0) counts → low ≤ end
+    → IsCounted most skips start to owed (end - start + 0) counts
+counted-known low end counted onward = grind (arith, common_steps)
+
+-- a walk gives the match that comes next in its chain
+module _ (a : AutomatonView) (on : reads_on a.built ≡ true) (chains : List (List ChainMatch)) (bytes : List ℕ)
+    (low end start : ℕ) (inside : end ≤ length bytes) (rest : ChainRest) {cursor : Cursor} {byte : Option ℕ} {work : Work}
+    (onward : IsOnward a (search_of a.built No bytes low end) start (pending a.built chains (Some rest)) cursor byte work)
+    (sound : IsRestBefore chains low (Some rest))
+    (found : ChainMatch) (there : slice_get (chain_at chains rest.chain) rest.index ≡ Some found) where
+  abbrev searched : Search
+  searched = search_of a.built No bytes low end
+
+  searched-is : IsSearchFor (plain_of a.built) searched
+  searched-is = record { free = refl; ordered = onward.ordered; inside = inside; same = refl }
+
+  pub chain-numbered : found.pattern < length a.built.patterns
+  chain-numbered = known-numbered a on chains searched searched-is refl onward.node cursor.at rest onward.stands.after found there
+
+  pub chain-within : length (pattern_of a.built.patterns found.pattern) ≤ rest.base + found.end
+  chain-within = known-within a on chains searched searched-is refl onward.node cursor.at rest onward.stands.after found there
+
+  pub chain-high : rest.base + found.end ≤ end
+  chain-high = known-high a on chains searched searched-is refl onward.node cursor.at rest onward.stands.after found there
+
+  pub chain-index : rest.index ≤ end
+  chain-index = let i = sound.1 in let o = searched-is.ordered in omega arith
+
+  chain-onward : low < rest.base + found.end
+  chain-onward = known-onward a on chains searched searched-is refl onward.node cursor.at rest onward.stands.after found there
+
+  pub chain-given : HasGiven a chains searched start (Some (place_of a.built (rest.base + found.end) found.pattern))
+      (Some (next a.built chains rest)) cursor byte work
+  chain-given = record {
+    answer = sym (picks-known a on chains searched searched-is refl onward.node cursor.at rest onward.stands.after found there);
+    place = within-end bytes byte onward.stands.after.inside onward.stands.hand onward.unread;
+    goes = (
+      (sound.0, (let i = sound.1 in let o = chain-onward in omega arith)),
+      record {
+        node = onward.node;
+        stands = record {
+          there = onward.stands.there;
+          after = goes-known a on chains searched searched-is refl onward.node cursor.at rest onward.stands.after found there;
+          hand = onward.stands.hand;
+        };
+        counted = counted-known low (rest.base + found.end) onward.counted (let o = chain-onward in omega arith);
+        unread = onward.unread;
+        begun = (let b = onward.begun in let o = chain-onward in omega arith);
+        ordered = chain-high;
+      },
+    );
+  }
+
+-- a walk may take the next match of its chain, if one is left
+module _ (a : AutomatonView) (on : reads_on a.built ≡ true) (chains : List (List ChainMatch)) (bytes : List ℕ)
+    (low end start : ℕ) (inside : end ≤ length bytes) (rest : Option ChainRest) {cursor : Cursor} {byte : Option ℕ} {work : Work}
+    (onward : IsOnward a (search_of a.built No bytes low end) start (pending a.built chains rest) cursor byte work)
+    (sound : IsRestBefore chains low rest) where
+  pub may-take : end < usize_max → IfSome rest (MayTakeFrom a.built chains)
+  may-take small = by rest onward sound
+    where
+      by : (r : Option ChainRest) → IsOnward a (search_of a.built No bytes low end) start (pending a.built chains r) cursor byte work
+          → IsRestBefore chains low r → IfSome r (MayTakeFrom a.built chains)
+      by None o s = tt
+      by (Some r) o s = record {
+        chained = s.0;
+        each = λ found there.
+            let high = chain-high a on chains bytes low end start inside r o s found there in
+            let index = chain-index a on chains bytes low end start inside r o s found there in
+            record {
+              numbered = chain-numbered a on chains bytes low end start inside r o s found there;
+              within = chain-within a on chains bytes low end start inside r o s found there;
+              small = omega arith;
+              more = omega arith;
+            };
+      }
+
+  -- and then has given that, or had none to give
+  pub takes-next : (result : Option Occurrence) (new : Option ChainRest) → TakesKnown a.built chains rest result new
+      → MatchOption result (IsOnward a (search_of a.built No bytes low end) start [] cursor byte work)
+      (λ m. HasGiven a chains (search_of a.built No bytes low end) start (Some m) new cursor byte work)
+  takes-next None new takes =
+      subst (λ (ms : List Occurrence). IsOnward a (search_of a.built No bytes low end) start ms cursor byte work) takes.1 onward
+  takes-next (Some m) new (r, is, takes) =
+      subst (λ (o : Occurrence). HasGiven a chains (search_of a.built No bytes low end) start (Some o) new cursor byte work)
+      (sym takes.stands)
+      (subst (λ (n : Option ChainRest). HasGiven a chains (search_of a.built No bytes low end) start
+      (Some (place_of a.built (r.base + takes.found.end) takes.found.pattern)) n cursor byte work) (sym takes.left)
+      (chain-given a on chains bytes low end start inside r
+      (subst (λ (n : Option ChainRest). IsOnward a (search_of a.built No bytes low end) start (pending a.built chains n) cursor byte work)
+      is onward) (subst (IsRestBefore chains low) is sound) takes.found takes.there))

@@ -1,0 +1,393 @@
+-- A walk that reads on past its matches: where it begins, what it gives, and that what it counts is paid.
+use Rattle.std.proofs.Common.{◌≡◌, ℕ, ◌+◌, ◌-◌, ◌<◌, ◌≤◌, ◌==◌, if◌then◌else◌, Bool, true, false, List, [], length, refl, ap, sym, ◌∙◌, subst, arith, Option, None, Some, IfSome, MatchOption}
+use Rattle.std.specs.Option.{is_some}
+use Rattle.std.proofs.lemmas.Bool.{false≢true}
+use Rattle.std.proofs.lemmas.Option.{IfSome_then}
+use Rattle.std.proofs.lemmas.Grind.{common_steps}
+use Rattle.ac_automaton.specs.Util.{Counts, credit, from, may_skip, next_match, No, no_counts, Occurrence, pick, Search, Span, Taped}
+use Rattle.ac_util.proofs.Onward.{after-low, after-start}
+use Rattle.ac_util.proofs.OneLonger.{none-past_end}
+use Rattle.ac_util.proofs.PickedWalks.{next-any}
+use Rattle.ac_util.proofs.Walks.{next-none, walk_after-None}
+use Rattle.ac_automaton.specs.Prelude.{after, AutomatonView, Finding, finding_of, Cursor, GoesOn, IsByFinds, IsPaidOnce, last_after, plain_of, reads_past, search_of, Walking, walking_of, Work, work_of}
+use Rattle.ac_automaton.specs.Commits.{reads_on}
+use Rattle.ac_automaton.specs.Iterators.{reads_past_by}
+use Rattle.ac_automaton.specs.Onward.{BeginsPast, GoesOnward, HasGiven, in_hand, IsCounted, IsKept, IsOnward, IsOnwardIn, IsReadingPast, IsRestBefore, KeepsOnward, pending}
+use Rattle.ac_automaton.specs.declared.automaton.onward.ChainRest.{ChainRest}
+use Rattle.ac_automaton.specs.declared.automaton.onward.Onward.{Onward}
+use Rattle.ac_automaton.specs.declared.automaton.skip.SkipBudget.{SkipBudget}
+use Rattle.ac_automaton.proofs.OnwardGives.{within-end}
+use Rattle.ac_automaton.proofs.OnwardSteps.{on-leftmost, on-some}
+use Rattle.ac_automaton.proofs.WalkLoop.{gives}
+
+-- a tape of which nothing was read
+abbrev pub fresh : List ℕ → Taped
+fresh bytes = record { bytes = bytes; place = 0 }
+
+-- what it has counted that goes on after a match, or has ended
+module _ (a : AutomatonView) (bytes : List ℕ) (span : Span) (last : Option ℕ) (start : ℕ) (on : reads_on a.built ≡ true)
+    (inside : span.end ≤ length bytes) (ordered : span.start ≤ span.end) (begun : start ≤ span.start)
+    (beyond : IfSome last (λ e. e ≤ span.start)) where
+  abbrev q : Search
+  q = search_of a.built No bytes span.start span.end
+
+  -- the walk at a place
+  abbrev walking-at : Option Occurrence → Work → Walking
+  walking-at found work =
+      walking_of (finding_of a No false) bytes (record { start = after span.end found; end = span.end }) (last_after last found) start work
+
+  paid-ended : {work : Work} → IsCounted a.most (may_skip a.wants_prefilter q) start span.end 0 (span.start - start) work.counts
+      → IsPaidOnce (walking-at None work)
+  paid-ended {work} counted = record {
+    looked = counted.looked;
+    looks = (let p = counted.paid in omega arith);
+    reads = counted.reads;
+    calls = counted.calls;
+    quiet = counted.quiet;
+    told = λ none. IfSome_then last beyond (λ e b. let w = counted.whole none in omega arith);
+  }
+
+  module _ (m : Occurrence) {ms : List Occurrence} {cursor : Cursor} {byte : Option ℕ} {work : Work}
+      (onward : IsOnward a (from q m.end) start ms cursor byte work) where
+    high : cursor.at + in_hand byte ≤ span.end
+    high = within-end bytes byte onward.stands.after.inside onward.stands.hand (omega arith)
+
+    low : m.end ≤ cursor.at
+    low =
+        let first = after-low a.built.kind (plain_of a.built) (on-leftmost a.built on) (on-some a.built on) (from q m.end) ms
+        onward.node cursor.at (record { free = refl; ordered = onward.ordered; inside = inside; same = refl }) onward.stands.after in
+        let up = onward.stands.after.within in omega arith
+
+    paid-given : IsPaidOnce (walking-at (Some m) work)
+    paid-given =
+        let c = onward.counted in let h = high in let l = low in let o = onward.ordered in
+        record {
+          looked = c.looked;
+          looks = (let p = c.paid in omega arith);
+          reads = (let r = c.reads in omega arith);
+          calls = (let r = c.calls in omega arith);
+          quiet = c.quiet;
+          told = λ none. let w = c.whole none in omega arith;
+        }
+
+-- such a walk reads on past its matches
+module _ {A M : Type 0} {seen : A → AutomatonView} {o : Onward A M} {finding : Finding} {tape : Taped} {span : Span}
+    {last : Option ℕ} {start : ℕ} {counts : Counts} (past : IsReadingPast seen o finding tape span last start counts) where
+  pub reads-past : reads_past (walking_of finding tape.bytes span last start (work_of tape counts)) ≡ true
+  reads-past =
+      ap (λ (f : Finding). reads_past_by f.picking.order f.anchored f.built.patterns) past.finds ∙ past.lawful.on
+
+-- it has gone on, and is kept so
+pub record HasGonePast {A M : Type 0} (seen : A → AutomatonView) (finding : Finding) (bytes : List ℕ) (span : Span) (last : Option ℕ)
+    (start : ℕ) (work : Work) (found : Option Occurrence) (new : Onward A M) (new_tape : Taped) (new_counts : Counts) : Type 0 where
+  pub goes_on : GoesOn (walking_of finding bytes span last start work) found
+      (walking_of finding new_tape.bytes (record { start = after span.end found; end = span.end }) (last_after last found) start
+      (work_of new_tape new_counts))
+  pub past : IsReadingPast seen new finding new_tape (record { start = after span.end found; end = span.end }) (last_after last found)
+      start new_counts
+
+-- where what it goes on with is paid, and it is on its way there or has ended
+module _ {A M : Type 0} (seen : A → AutomatonView) (o : Onward A M) (tape : Taped) (span : Span) (last : Option ℕ) (start : ℕ)
+    (counts : Counts) (inside : span.end ≤ length tape.bytes) (ordered : span.start ≤ span.end)
+    (past : IsReadingPast seen o (finding_of (seen o.automaton.now) No false) tape span last start counts) where
+  abbrev a : AutomatonView
+  a = seen o.automaton.now
+
+  abbrev asked : Search
+  asked = search_of a.built No tape.bytes span.start span.end
+
+  module _ (cursor : Cursor) (byte : Option ℕ) (rest : Option ChainRest) (budget : SkipBudget) (new_counts : Counts) (place : ℕ) where
+    abbrev work : Work
+    work = record { place = place; counts = new_counts }
+
+    goes-by : (found : Option Occurrence) → found ≡ pick a.built.kind asked
+        → IsPaidOnce (walking-at a tape.bytes span last start past.lawful.on inside ordered past.begun past.beyond found work)
+        → GoesOn (walking_of (finding_of a No false) tape.bytes span last start (work_of tape counts)) found
+        (walking-at a tape.bytes span last start past.lawful.on inside ordered past.begun past.beyond found work)
+    goes-by found answer paid =
+        let same : found ≡ next_match a.built.kind asked last =
+        answer ∙ sym (next-any a.built.kind (plain_of a.built) (on-some a.built past.lawful.on) asked
+        (record { free = refl; ordered = ordered; inside = inside; same = refl }) last) in
+        record {
+          gives = gives a.built.kind asked last found same;
+          next = same;
+          same = refl;
+          finds = λ not. absurd (false≢true (sym not ∙ reads-past past));
+          paid = record {
+            finds = λ not. absurd (false≢true (sym not ∙ reads-past past));
+            once = λ _. paid;
+          };
+        }
+
+    abbrev moved : Onward A M
+    moved = record o { cursor = cursor; byte = byte; rest = rest; budget = budget }
+
+    past-by : (found : Option Occurrence) → HasGiven a o.commits.now.chains asked start found rest cursor byte work
+        → HasGonePast seen (finding_of a No false) tape.bytes span last start (work_of tape counts) found moved
+        (record { bytes = tape.bytes; place = place }) new_counts
+    past-by None given =
+        let paid = paid-ended a tape.bytes span last start past.lawful.on inside ordered past.begun past.beyond {work = work} given.goes in
+        record {
+          goes_on = goes-by None given.answer paid;
+          past = record {
+            finds = refl;
+            lawful = record { on = past.lawful.on; starts = past.lawful.starts; commits = past.lawful.commits; skips = past.lawful.skips; needle = past.lawful.needle };
+            begun = (let b = past.begun in omega arith);
+            legal = omega arith;
+            beyond = IfSome_then last past.beyond (λ e b. omega arith);
+            sound = λ up. absurd (omega arith);
+            onward = λ up. absurd (omega arith);
+            ended = λ _. paid;
+          };
+        }
+    past-by (Some m) given =
+        let onward = given.goes.1 in
+        record {
+          goes_on = goes-by (Some m) given.answer
+              (paid-given a tape.bytes span last start past.lawful.on inside ordered past.begun past.beyond m onward);
+          past = record {
+            finds = refl;
+            lawful = record { on = past.lawful.on; starts = past.lawful.starts; commits = past.lawful.commits; skips = past.lawful.skips; needle = past.lawful.needle };
+            begun = onward.begun;
+            legal = (let h = onward.ordered in omega arith);
+            beyond = omega arith;
+            sound = λ _. given.goes.0;
+            onward = λ _. onward;
+            ended = λ over. absurd (let h = onward.ordered in omega arith);
+          };
+        }
+
+-- it has gone on by what it has given
+pub past-goes : {A M : Type 0} {seen : A → AutomatonView} {o : Onward A M} {finding : Finding} {tape : Taped} {span : Span}
+    {last : Option ℕ} {start : ℕ} {counts : Counts} → span.end ≤ length tape.bytes → span.start ≤ span.end
+    → IsReadingPast seen o finding tape span last start counts → (found : Option Occurrence) (new : Onward A M) (new_tape : Taped)
+    (new_counts : Counts) → KeepsOnward o new → new_tape.bytes ≡ tape.bytes
+    → GoesOnward seen o span tape counts found new new_tape new_counts
+    → HasGonePast seen finding tape.bytes span last start (work_of tape counts) found new new_tape new_counts
+past-goes {A} {M} {seen} {o} {finding} {tape} {span} {last} {start} {counts} inside ordered past found new new_tape new_counts keeps bytes goes =
+    subst (λ (f : Finding). HasGonePast seen f tape.bytes span last start (work_of tape counts) found new new_tape new_counts) (sym past.finds)
+    (subst (λ (n : Onward A M). HasGonePast seen (finding_of (seen o.automaton.now) No false) tape.bytes span last start (work_of tape counts)
+    found n new_tape new_counts) (sym keeps)
+    (subst (λ (bs : List ℕ). HasGonePast seen (finding_of (seen o.automaton.now) No false) tape.bytes span last start (work_of tape counts)
+    found (record o { cursor = new.cursor; byte = new.byte; rest = new.rest; budget = new.budget }) (record { bytes = bs; place = new_tape.place }) new_counts)
+    (sym bytes)
+    (past-by seen o tape span last start counts inside ordered
+    (subst (λ (f : Finding). IsReadingPast seen o f tape span last start counts) past.finds past)
+    new.cursor new.byte new.rest new.budget new_counts new_tape.place found (goes start (past.onward ordered)))))
+
+-- a new tape changes nothing of it
+pub with-fresh : {A M : Type 0} {seen : A → AutomatonView} {o : Onward A M} {finding : Finding} {tape : Taped} {span : Span}
+    {last : Option ℕ} {start : ℕ} {counts : Counts} → IsReadingPast seen o finding tape span last start counts
+    → IsReadingPast seen o finding (fresh tape.bytes) span last start counts
+with-fresh past = record {
+  finds = past.finds;
+  lawful = past.lawful;
+  begun = past.begun;
+  legal = past.legal;
+  beyond = past.beyond;
+  sound = past.sound;
+  onward = λ ordered. let o = past.onward ordered in record {
+    node = o.node;
+    stands = o.stands;
+    counted = o.counted;
+    unread = omega arith;
+    begun = o.begun;
+    ordered = o.ordered;
+  };
+  ended = λ over. let paid = past.ended over in record {
+    looked = paid.looked;
+    looks = paid.looks;
+    reads = paid.reads;
+    calls = paid.calls;
+    quiet = paid.quiet;
+    told = paid.told;
+  };
+}
+
+-- it has gone on with a new tape by what it has given
+pub fresh-goes : {A M : Type 0} {seen : A → AutomatonView} {o : Onward A M} {finding : Finding} {tape : Taped} {span : Span}
+    {last : Option ℕ} {start : ℕ} {counts : Counts} → span.end ≤ length tape.bytes → span.start ≤ span.end
+    → IsReadingPast seen o finding tape span last start counts → (new : Taped) → new ≡ fresh tape.bytes → (found : Option Occurrence)
+    (new_onward : Onward A M) (new_tape : Taped) (new_counts : Counts) → KeepsOnward o new_onward → new_tape.bytes ≡ new.bytes
+    → GoesOnward seen o span new counts found new_onward new_tape new_counts
+    → HasGonePast seen finding tape.bytes span last start (work_of tape counts) found new_onward new_tape new_counts
+fresh-goes {seen = seen} {o = o} {finding = finding} {tape = tape} {span = span} {last = last} {start = start} {counts = counts} inside ordered past new is found new_onward new_tape new_counts keeps bytes goes =
+    let gone =
+    past-goes inside ordered (with-fresh past) found new_onward new_tape new_counts keeps (bytes ∙ ap (λ (t : Taped). t.bytes) is)
+    (subst (λ (t : Taped). GoesOnward seen o span t counts found new_onward new_tape new_counts) is goes) in
+    record {
+      goes_on = record {
+        gives = gone.goes_on.gives;
+        next = gone.goes_on.next;
+        same = gone.goes_on.same;
+        finds = λ not. absurd (false≢true (sym not ∙ reads-past past));
+        paid = gone.goes_on.paid;
+      };
+      past = gone.past;
+    }
+
+-- past the end of its span it gives nothing more
+pub past-over : {A M : Type 0} {seen : A → AutomatonView} {o : Onward A M} {finding : Finding} {tape : Taped} {span : Span}
+    {last : Option ℕ} {start : ℕ} {counts : Counts} → span.end < span.start
+    → IsReadingPast seen o finding tape span last start counts
+    → GoesOn (walking_of finding tape.bytes span last start (work_of tape counts)) None
+    (walking_of finding tape.bytes span last start (work_of tape counts))
+past-over {finding = finding} {tape = tape} {span = span} {last = last} {start = start} {counts = counts} over past =
+    let q = search_of finding.built finding.anchored tape.bytes span.start span.end in
+    let none = next-none finding.picking.order q last (none-past_end finding.picking.order q over) in
+    let empty = walk_after-None finding.picking.order q last none in
+    let ends : span.start ≡ span.end + 1 = (let l = past.legal in omega arith) in
+    record {
+      gives = (empty, empty);
+      next = sym none;
+      same = ap (λ (k : ℕ). record (walking_of finding tape.bytes span last start (work_of tape counts)) { left = from q k }) ends;
+      finds = λ not. absurd (false≢true (sym not ∙ reads-past past));
+      paid = record {
+        finds = λ not. absurd (false≢true (sym not ∙ reads-past past));
+        once = λ _. past.ended over;
+      };
+    }
+
+-- what is kept of a walk that reads on past its matches, or of one by finds
+module _ {A M : Type 0} {seen : A → AutomatonView} {finding : Finding} {tape : Taped} {span : Span} {last : Option ℕ} {start : ℕ}
+    {counts : Counts} {r : Option (Onward A M)} (kept : IsKept seen finding tape span last start counts r) where
+  pub kept-past : (o : Onward A M) → r ≡ Some o → IsReadingPast seen o finding tape span last start counts
+  kept-past o is = (subst (IsKept seen finding tape span last start counts) is kept).by
+
+  pub kept-finds : r ≡ None → IsByFinds (walking_of finding tape.bytes span last start (work_of tape counts))
+  kept-finds is = (subst (IsKept seen finding tape span last start counts) is kept).by
+
+  -- the first reads on past its matches
+  pub kept-reads : {now : Walking} → walking_of finding tape.bytes span last start (work_of tape counts) ≡ now → is_some r ≡ true
+      → reads_past now ≡ true
+  kept-reads {now} is there = by r there kept.by
+    where
+      by : (r : Option (Onward A M)) → is_some r ≡ true → MatchOption r
+          (IsByFinds (walking_of finding tape.bytes span last start (work_of tape counts)))
+          (λ o. IsReadingPast seen o finding tape span last start counts) → reads_past now ≡ true
+      by None e finds = absurd (false≢true e)
+      by (Some o) e reads = ap reads_past (sym is) ∙ reads-past reads
+
+  -- one that reads on past its matches gives nothing more past the end of its span
+  pub kept-over : {now : Walking} → walking_of finding tape.bytes span last start (work_of tape counts) ≡ now → reads_past now ≡ true
+      → span.end < span.start → GoesOn now None now
+  kept-over {now} is past over = by r kept.by
+    where
+      by : (r : Option (Onward A M)) → MatchOption r
+          (IsByFinds (walking_of finding tape.bytes span last start (work_of tape counts)))
+          (λ o. IsReadingPast seen o finding tape span last start counts) → GoesOn now None now
+      by None finds = absurd (false≢true (sym finds.by_finds ∙ ap reads_past is ∙ past))
+      by (Some o) reads = subst (λ (w : Walking). GoesOn w None w) is (past-over over reads)
+
+-- what there isn't is none
+pub none-from : {X : Type 0} (r : Option X) → is_some r ≡ false → r ≡ None
+none-from None e = refl
+none-from (Some x) e = absurd (false≢true (sym e))
+
+-- one by finds is kept so
+pub keeps-finds : {A M : Type 0} {seen : A → AutomatonView} {finding : Finding} {tape : Taped} {span : Span} {last : Option ℕ} {start : ℕ}
+    {counts : Counts} {r : Option (Onward A M)} → r ≡ None
+    → IsByFinds (walking_of finding tape.bytes span last start (work_of tape counts))
+    → IsKept seen finding tape span last start counts r
+keeps-finds {seen = seen} {finding = finding} {tape = tape} {span = span} {last = last} {start = start} {counts = counts} none finds =
+    subst (IsKept seen finding tape span last start counts) (sym none) (record { by = finds })
+
+-- a walk has gone on, as its iterator keeps it
+module _ {A M : Type 0} {seen : A → AutomatonView} {finding : Finding} {bytes : List ℕ} {span : Span} {last : Option ℕ} {start : ℕ}
+    {work : Work} {found : Option Occurrence} {new : Onward A M} {new_tape : Taped} {new_counts : Counts}
+    (gone : HasGonePast seen finding bytes span last start work found new new_tape new_counts)
+    (at : ℕ) (there : at ≡ after span.end found) (ended : Option ℕ) (ends : ended ≡ last_after last found) where
+  pub gone-goes : {now : Walking} → walking_of finding bytes span last start work ≡ now
+      → GoesOn now found
+      (walking_of finding new_tape.bytes (record { start = at; end = span.end }) ended start (work_of new_tape new_counts))
+  gone-goes {now} is =
+      subst (λ (w : Walking). GoesOn w found
+      (walking_of finding new_tape.bytes (record { start = at; end = span.end }) ended start (work_of new_tape new_counts))) is
+      (subst (λ (k : ℕ). GoesOn (walking_of finding bytes span last start work) found
+      (walking_of finding new_tape.bytes (record { start = k; end = span.end }) ended start (work_of new_tape new_counts))) (sym there)
+      (subst (λ (l : Option ℕ). GoesOn (walking_of finding bytes span last start work) found
+      (walking_of finding new_tape.bytes (record { start = after span.end found; end = span.end }) l start (work_of new_tape new_counts)))
+      (sym ends) gone.goes_on))
+
+  pub gone-past : IsReadingPast seen new finding new_tape (record { start = at; end = span.end }) ended start new_counts
+  gone-past =
+      subst (λ (k : ℕ). IsReadingPast seen new finding new_tape (record { start = k; end = span.end }) ended start new_counts) (sym there)
+      (subst (λ (l : Option ℕ). IsReadingPast seen new finding new_tape (record { start = after span.end found; end = span.end }) l start
+      new_counts) (sym ends) gone.past)
+
+-- at its start a node is worth nothing
+either-way : (t : Bool) (n : ℕ) → (if t then n else n) ≡ n
+either-way true n = refl
+either-way false n = refl
+
+credit-start : (most : ℕ) → credit most (Some []) ≡ 0
+credit-start most = either-way (most == 1) 0
+
+-- a walk that begins is kept
+module _ {A M : Type 0} (seen : A → AutomatonView) (finding : Finding) (bytes : List ℕ) (span : Span) (legal : span.start ≤ span.end + 1)
+    (inside : span.end ≤ length bytes) where
+  begins-reading : (o : Onward A M) → BeginsPast seen finding span.start o
+      → IsReadingPast seen o finding (fresh bytes) span None span.start no_counts
+  begins-reading o begins =
+      let a = seen o.automaton.now in
+      let at-start : span.start ≤ span.end → IsOnwardIn a (fresh bytes) span.start span.end span.start [] (record { state = o.start; at = span.start }) None no_counts =
+      λ ordered. record {
+        node = [];
+        stands = record {
+          there = begins.lawful.starts;
+          after = after-start a.built.kind (plain_of a.built) (on-leftmost a.built begins.lawful.on) (on-some a.built begins.lawful.on)
+              (search_of a.built No bytes span.start span.end) (record { free = refl; ordered = ordered; inside = inside; same = refl });
+          hand = tt;
+        };
+        counted = (let c = credit-start a.most in record {
+          reads = omega arith;
+          whole = λ none. omega arith;
+          calls = omega arith;
+          quiet = λ not. refl;
+          looked = omega arith;
+          paid = omega arith;
+        });
+        unread = omega arith;
+        begun = omega arith;
+        ordered = ordered;
+      } in
+      record {
+        finds = begins.finds;
+        lawful = begins.lawful;
+        begun = omega arith;
+        legal = legal;
+        beyond = tt;
+        sound = λ up. subst (IsRestBefore o.commits.now.chains span.start) (sym begins.rest) tt;
+        onward = λ ordered.
+            subst (λ (rest : Option ChainRest). IsOnwardIn a (fresh bytes) span.start span.end span.start
+            (pending a.built o.commits.now.chains rest) o.cursor o.byte no_counts) (sym begins.rest)
+            (subst (λ (b : Option ℕ). IsOnwardIn a (fresh bytes) span.start span.end span.start [] o.cursor b no_counts) (sym begins.byte)
+            (subst (λ (k : Cursor). IsOnwardIn a (fresh bytes) span.start span.end span.start [] k None no_counts) (sym begins.cursor)
+            (at-start ordered)));
+        ended = λ over. record {
+          looked = omega arith;
+          looks = omega arith;
+          reads = omega arith;
+          calls = omega arith;
+          quiet = λ not. refl;
+          told = λ none. tt;
+        };
+      }
+
+  begins-kept : (r : Option (Onward A M))
+      → MatchOption r (reads_past_by finding.picking.order finding.anchored finding.built.patterns ≡ false) (BeginsPast seen finding span.start)
+      → IsKept seen finding (fresh bytes) span None span.start no_counts r
+  begins-kept None finds = record { by = record { by_finds = finds; under_way = grind (arith, common_steps) } }
+  begins-kept (Some o) begins = record { by = begins-reading o begins }
+
+-- with a tape of which nothing was read
+pub kept-first : {A M : Type 0} {seen : A → AutomatonView} {finding : Finding} {bytes : List ℕ} {tape : Taped} {span : Span} {start : ℕ}
+    {counts : Counts} {r : Option (Onward A M)} → tape ≡ record { bytes = bytes; place = 0 } → start ≡ span.start → counts ≡ no_counts
+    → span.start ≤ span.end + 1 → span.end ≤ length bytes
+    → MatchOption r (reads_past_by finding.picking.order finding.anchored finding.built.patterns ≡ false) (BeginsPast seen finding span.start)
+    → IsKept seen finding tape span None start counts r
+kept-first {A} {M} {seen} {finding} {bytes} {tape} {span} {start} {counts} {r} new-tape first none legal inside begins =
+    subst (λ (t : Taped). IsKept seen finding t span None start counts r) (sym new-tape)
+    (subst (λ (k : ℕ). IsKept seen finding (record { bytes = bytes; place = 0 }) span None k counts r) (sym first)
+    (subst (λ (c : Counts). IsKept seen finding (record { bytes = bytes; place = 0 }) span None span.start c r) (sym none)
+    (begins-kept seen finding bytes span legal inside r begins)))

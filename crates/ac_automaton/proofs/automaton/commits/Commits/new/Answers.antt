@@ -1,0 +1,9 @@
+use Rattle.std.proofs.Common.{rules}
+use Rattle.std.proofs.lemmas.List.Sorted.{IsNonDecreasingBy-from_sort_by_key}
+use Rattle.ac_automaton.specs.declared.automaton.commits.Commit.{Commit}
+use Rattle.ac_automaton.proofs.automaton.commits.Commits.new.Goals as goal
+
+pub invariant_of-result : goal.invariant_of-result
+invariant_of-result g c =
+    IsNonDecreasingBy-from_sort_by_key (λ (commit : Commit). commit.state) _ c.sort_unstable_by_key.ensures.sorted
+    (λ a r f called. search rules)

@@ -1,0 +1,474 @@
+//! Leftmost walks that read each byte once.
+//!
+//! A leftmost match is known only once bytes after it were read. Such a walk doesn't read them again: the commit of the state
+//! where it stands says which matches lie in them, and at which state it goes on.
+ghost use Rattle.std.specs.Prelude.{◌≡◌, ◌<◌, ◌≤◌, [], false, true, length, option_map, IfSome, Some, None};
+ghost use Rattle.ac_util.specs.Prefilters.{first_bytes_of};
+ghost use Rattle.ac_automaton.specs.Util.{No, pattern_of, usize_max};
+ghost use Rattle.ac_automaton.specs.Automata.{IsState};
+ghost use Rattle.ac_automaton.specs.Commits.{AreCommits, reads_on};
+ghost use Rattle.ac_automaton.specs.Finds.{finding_of, place_of};
+ghost use Rattle.ac_automaton.specs.Onward.{BeginsPast, GivesFrom, GivesNext, GivesOf, GoesOnward, IsAtStart, IsLawful, KeepsOnward, MayFindOnly, MayGive, MayGoOnward, MayReadAlive, MayReadOn, MayReadUpTo, MayTake, MayTakeFrom, ReadsAlive, ReadsFurther, ReadsOn, ReadsToStart, ReadsUpTo, SkipsToFirst, SkipsToOnly, TakesKnown, TakesNext, TriesByte};
+
+use super::Automaton;
+use super::commits::{Chains, Commits};
+use super::scan::Cursor;
+use super::skip::SkipBudget;
+use ac_util::looks::{Looks, Tape};
+use ac_util::prefilter::{FirstBytes, Needle};
+use ac_util::primitives::{PatternID, StateID};
+use ac_util::search::{Anchored, Match, Span};
+
+/// The matches of a chain that a walk is still to give.
+#[derive(Clone, Copy)]
+pub(super) struct ChainRest {
+    chain: usize,
+    /// How many were given.
+    index: usize,
+    /// Where the match before the chain ended, from which their ends are counted.
+    base: usize,
+}
+
+/// What a walk gives that leaves a state by a byte that leads to the dead state, as a commit says it.
+#[derive(Clone, Copy)]
+pub(super) struct Given {
+    pub(super) pattern: PatternID,
+    /// How many bytes of the state's string come after the match.
+    pub(super) rest: usize,
+    pub(super) next: StateID,
+    /// The chain of matches that come in these bytes, if some do.
+    pub(super) chain: Option<usize>,
+}
+
+/// A walk that reads each byte once.
+#[derive(Drop)]
+pub(super) struct Onward<'a, A: Automaton> {
+    automaton: &'a A,
+    commits: &'a Commits<A::Memory>,
+    start: StateID,
+    cursor: Cursor,
+    /// The byte at the cursor where that was read, and didn't lead on.
+    byte: Option<u8>,
+    rest: Option<ChainRest>,
+    /// The first bytes to which it may skip.
+    first: Option<FirstBytes>,
+    /// Its only pattern, to which it may skip.
+    needle: Option<&'a Needle<A::Memory>>,
+    budget: SkipBudget,
+}
+
+impl<'a, A: Automaton> Onward<'a, A> {
+    /// Returns a walk that begins at an offset, at this start. It may skip to some first bytes, or to its only pattern.
+    #[inline]
+    pub(super) fn new(
+        automaton: &'a A,
+        start: StateID,
+        first: Option<FirstBytes>,
+        needle: Option<&'a Needle<A::Memory>>,
+        at: usize,
+    ) -> Onward<'a, A>
+        requires needle { IfSome needle (λ n. SkipsToOnly (A.seen automaton.now) n.now) }
+        requires skips { IfSome first (λ f. SkipsToFirst (A.seen automaton.now) (first_bytes_of f)) }
+        requires on { reads_on (A.seen automaton.now).built ≡ true }
+        requires starts { (A.seen automaton.now).stands No start (Some []) }
+        ensures begins { BeginsPast A.seen (finding_of (A.seen automaton.now) No false) at result }
+    {
+        Onward {
+            automaton,
+            commits: automaton.commits(),
+            start,
+            cursor: Cursor { state: start, at },
+            byte: None,
+            rest: None,
+            first,
+            needle,
+            budget: SkipBudget::new(),
+        }
+    }
+
+    /// Returns the next match in a span of a tape, and moves on. The span begins where the match before ended, or past its own end
+    /// after the last match.
+    pub(super) fn next(
+        &mut self,
+        span: Span,
+        tape: &mut Tape<'_>,
+        looks: &mut Looks,
+    ) -> Option<Match>
+        requires may { MayGoOnward A.seen self.old span tape.old looks.old }
+        ensures same { KeepsOnward self.old self.new }
+        ensures bytes { tape.new.bytes ≡ tape.old.bytes }
+        ensures gives { GoesOnward A.seen self.old span tape.old looks.old result self.new tape.new looks.new }
+    {
+        if let Some(found) = self.take_known() {
+            return Some(found);
+        }
+        if let Some(needle) = self.needle {
+            return self.give_needle(needle, span.end, tape, looks);
+        }
+        self.read_on(span.end, tape, looks);
+        self.give()
+    }
+
+    /// Returns the next match of the chain, if one is left.
+    #[inline]
+    fn take_known(&mut self) -> Option<Match>
+        requires may { MayTake A.seen self.old }
+        ensures same { self.new ≡ record self.old { rest = self.new.rest } }
+        ensures takes { TakesNext A.seen self.old result self.new.rest }
+    {
+        take_next(self.automaton, self.commits.chains(), &mut self.rest)
+    }
+
+    /// Gives the next match of the only pattern, and goes on after it.
+    #[inline(never)]
+    fn give_needle(
+        &mut self,
+        needle: &Needle<A::Memory>,
+        end: usize,
+        tape: &mut Tape<'_>,
+        looks: &mut Looks,
+    ) -> Option<Match>
+        requires lawful { IsLawful A.seen self.old }
+        requires needle { SkipsToOnly (A.seen self.old.automaton.now) needle.now }
+        requires may { MayReadOn (A.seen self.old.automaton.now) tape.old end self.old.cursor self.old.byte looks.old }
+        ensures same { KeepsOnward self.old self.new }
+        ensures bytes { tape.new.bytes ≡ tape.old.bytes }
+        ensures gives { GivesFrom A.seen self.old tape.old end looks.old result self.new tape.new looks.new }
+    {
+        if self.read_to_start(end, tape, looks) {
+            return self.find_needle(needle, end, tape, looks);
+        }
+        self.give()
+    }
+
+    /// Reads on up to where a call of the prefilter pays and may be made: the automaton is at its start with nothing in hand,
+    /// and a byte is left. Returns whether it has come to such a place; else it has read on as `read_on` does.
+    fn read_to_start(&mut self, end: usize, tape: &mut Tape<'_>, looks: &mut Looks) -> bool
+        requires may { MayReadOn (A.seen self.old.automaton.now) tape.old end self.old.cursor self.old.byte looks.old }
+        ensures same { KeepsOnward self.old self.new }
+        ensures rest { self.new.rest ≡ self.old.rest }
+        ensures reads { ReadsToStart A.seen self.old tape.old end looks.old result self.new tape.new looks.new }
+    {
+        if !self.try_byte(looks) {
+            return false;
+        }
+        while self.cursor.at < end {
+            if self.is_to_skip() {
+                return true;
+            }
+            let byte = self.read_rest(end, tape, looks);
+            if byte.is_some() {
+                self.byte = byte;
+                return false;
+            }
+        }
+        false
+    }
+
+    /// Gives the next match of the only pattern, as the prefilter finds it, and goes on after it.
+    #[inline]
+    fn find_needle(
+        &mut self,
+        needle: &Needle<A::Memory>,
+        end: usize,
+        tape: &Tape<'_>,
+        looks: &mut Looks,
+    ) -> Option<Match>
+        requires finds { MayFindOnly A.seen self.old end needle.now }
+        requires may { MayReadOn (A.seen self.old.automaton.now) tape.now end self.old.cursor self.old.byte looks.old }
+        ensures same { KeepsOnward self.old self.new }
+        ensures gives { GivesFrom A.seen self.old tape.now end looks.old result self.new tape.now looks.new }
+    {
+        let from = self.cursor.at;
+        let found = tape.find_needle(needle, from, end, looks);
+        self.budget.record_needle(from, &found);
+        self.rest = None;
+        self.cursor.at = match &found {
+            Some(found) => found.end(),
+            None => end,
+        };
+        found
+    }
+
+    /// Reads on as far as it has to: up to a byte that leads to the dead state, which it then has in hand, or up to an end.
+    fn read_on(&mut self, end: usize, tape: &mut Tape<'_>, looks: &mut Looks)
+        requires skips { IfSome self.old.first (λ f. SkipsToFirst (A.seen self.old.automaton.now) (first_bytes_of f)) }
+        requires may { MayReadOn (A.seen self.old.automaton.now) tape.old end self.old.cursor self.old.byte looks.old }
+        ensures same { KeepsOnward self.old self.new }
+        ensures rest { self.new.rest ≡ self.old.rest }
+        ensures reads { ReadsOn (A.seen self.old.automaton.now) tape.old end self.old.cursor self.old.byte looks.old
+            self.new.cursor self.new.byte tape.new looks.new }
+    {
+        if !self.try_byte(looks) {
+            return;
+        }
+        self.byte = self.read_or_skip(end, tape, looks);
+    }
+
+    /// Tries the byte in hand, if there is one. Returns whether nothing is in hand then: where the byte leads to the dead state it
+    /// stays.
+    #[inline]
+    fn try_byte(&mut self, looks: &mut Looks) -> bool
+        requires on { reads_on (A.seen self.old.automaton.now).built ≡ true }
+        requires state { IsState ((A.seen self.old.automaton.now).stands No) self.old.cursor.state }
+        requires small { IfSome self.old.byte (λ b. self.old.cursor.at < usize_max) }
+        ensures same { self.new ≡ record self.old { cursor = self.new.cursor; byte = self.new.byte } }
+        ensures empty { result ≡ true → self.new.byte ≡ None }
+        ensures tries { TriesByte (A.seen self.old.automaton.now) self.old.cursor self.old.byte looks.old result
+            self.new.cursor self.new.byte looks.new }
+    {
+        let Some(byte) = self.byte else {
+            return true;
+        };
+        let state = self.cursor.state;
+        let next = self.automaton.next_state(Anchored::No, state, byte, looks);
+        if self.automaton.is_dead(next) {
+            return false;
+        }
+        self.cursor = Cursor {
+            state: next,
+            at: self.cursor.at + 1,
+        };
+        self.byte = None;
+        true
+    }
+
+    /// Reads on as `read_alive` does. It skips ahead to the first bytes where some are given and that pays.
+    #[inline]
+    fn read_or_skip(&mut self, end: usize, tape: &mut Tape<'_>, looks: &mut Looks) -> Option<u8>
+        requires skips { IfSome self.old.first (λ f. SkipsToFirst (A.seen self.old.automaton.now) (first_bytes_of f)) }
+        requires may { MayReadUpTo (A.seen self.old.automaton.now) tape.old end self.old.cursor looks.old }
+        ensures same { self.new ≡ record self.old { cursor = self.new.cursor; budget = self.new.budget } }
+        ensures reads { ReadsUpTo (A.seen self.old.automaton.now) tape.old end self.old.cursor looks.old
+            self.new.cursor result tape.new looks.new }
+    {
+        match self.first {
+            Some(first) => self.skip_alive(first, end, tape, looks),
+            None => read_alive(self.automaton, end, &mut self.cursor, tape, looks),
+        }
+    }
+
+    /// Reads on as `read_alive` does, and skips ahead to the first bytes where the automaton is at its start and that pays.
+    #[inline(never)]
+    fn skip_alive(
+        &mut self,
+        first: FirstBytes,
+        end: usize,
+        tape: &mut Tape<'_>,
+        looks: &mut Looks,
+    ) -> Option<u8>
+        requires skips { SkipsToFirst (A.seen self.old.automaton.now) (first_bytes_of first) }
+        requires may { MayReadUpTo (A.seen self.old.automaton.now) tape.old end self.old.cursor looks.old }
+        ensures same { self.new ≡ record self.old { cursor = self.new.cursor; budget = self.new.budget } }
+        ensures reads { ReadsUpTo (A.seen self.old.automaton.now) tape.old end self.old.cursor looks.old
+            self.new.cursor result tape.new looks.new }
+    {
+        while self.cursor.at < end {
+            let byte = if self.is_to_skip() {
+                self.skip(first, end, tape, looks)
+            } else {
+                self.read_rest(end, tape, looks)
+            };
+            if byte.is_some() {
+                return byte;
+            }
+        }
+        None
+    }
+
+    /// Returns whether a call of the prefilter pays and may be made: the automaton is at its start.
+    #[inline]
+    fn is_to_skip(&self) -> bool
+        requires state { IsState ((A.seen self.now.automaton.now).stands No) self.now.cursor.state }
+        ensures { result ≡ true → IsAtStart (A.seen self.now.automaton.now) self.now.cursor.state }
+    {
+        self.budget.is_left() && self.automaton.is_start(self.cursor.state)
+    }
+
+    /// Reads on without the prefilter for a while, by a byte at least, or to one that leads to the dead state.
+    #[inline]
+    fn read_rest(&mut self, end: usize, tape: &mut Tape<'_>, looks: &mut Looks) -> Option<u8>
+        requires may { MayReadUpTo (A.seen self.old.automaton.now) tape.old end self.old.cursor looks.old }
+        requires before { self.old.cursor.at < end }
+        ensures same { self.new ≡ record self.old { cursor = self.new.cursor; budget = self.new.budget } }
+        ensures reads { ReadsFurther (A.seen self.old.automaton.now) tape.old end self.old.cursor looks.old
+            self.new.cursor result tape.new looks.new }
+    {
+        let from = self.cursor.at;
+        let to = self.budget.rest_end(from, end);
+        let byte = read_alive(self.automaton, to, &mut self.cursor, tape, looks);
+        self.budget.record_rest(self.cursor.at - from);
+        byte
+    }
+
+    /// Skips ahead to the next of the first bytes, and tries it. It reads on by a byte at least, or to one that leads to the dead
+    /// state.
+    #[inline]
+    fn skip(
+        &mut self,
+        first: FirstBytes,
+        end: usize,
+        tape: &mut Tape<'_>,
+        looks: &mut Looks,
+    ) -> Option<u8>
+        requires skips { SkipsToFirst (A.seen self.old.automaton.now) (first_bytes_of first) }
+        requires may { MayReadUpTo (A.seen self.old.automaton.now) tape.old end self.old.cursor looks.old }
+        requires before { self.old.cursor.at < end }
+        requires at_start { IsAtStart (A.seen self.old.automaton.now) self.old.cursor.state }
+        ensures same { self.new ≡ record self.old { cursor = self.new.cursor; budget = self.new.budget } }
+        ensures reads { ReadsFurther (A.seen self.old.automaton.now) tape.old end self.old.cursor looks.old
+            self.new.cursor result tape.new looks.new }
+    {
+        let from = self.cursor.at;
+        let Some(next) = tape.skip_to(first, from, end, looks) else {
+            self.cursor.at = end;
+            return None;
+        };
+        self.budget.record_skip(next - from);
+        self.cursor.at = next;
+        let byte = tape.read(next, looks);
+        let state = self.cursor.state;
+        let led = self.automaton.next_state(Anchored::No, state, byte, looks);
+        if self.automaton.is_dead(led) {
+            return Some(byte);
+        }
+        self.cursor = Cursor {
+            state: led,
+            at: next + 1,
+        };
+        None
+    }
+
+    /// Gives the match that is picked where the walk stands, and goes on from there; or none where nothing is picked.
+    fn give(&mut self) -> Option<Match>
+        requires may { MayGive A.seen self.old }
+        ensures same { KeepsOnward self.old self.new }
+        ensures gives { GivesNext A.seen self.old result self.new }
+    {
+        let Some(given) = given_at(self.automaton, self.commits, self.start, self.cursor.state)
+        else {
+            return None;
+        };
+        let end = self.cursor.at - given.rest;
+        let found = match_ending(self.automaton, given.pattern, end);
+        self.cursor.state = given.next;
+        self.rest = chain_rest(given.chain, end);
+        Some(found)
+    }
+}
+
+/// Returns all matches of a chain as still to be given, after a match that ended at an offset.
+#[inline]
+pub(super) fn chain_rest(chain: Option<usize>, base: usize) -> Option<ChainRest>
+    ensures { result ≡ option_map (λ number. record { chain = number; index = 0; base = base }) chain }
+{
+    let chain = chain?;
+    Some(ChainRest {
+        chain,
+        index: 0,
+        base,
+    })
+}
+
+/// Returns the match of a pattern that ends at an offset.
+#[inline]
+pub(super) fn match_ending<A: Automaton>(automaton: &A, pattern: PatternID, end: usize) -> Match
+    requires numbered { pattern < length (A.seen automaton.now).built.patterns }
+    requires within { length (pattern_of (A.seen automaton.now).built.patterns pattern) ≤ end }
+    ensures { result ≡ place_of (A.seen automaton.now).built end pattern }
+{
+    let len = automaton.pattern_len(pattern);
+    Match::new(
+        pattern,
+        Span {
+            start: end - len,
+            end,
+        },
+    )
+}
+
+/// Returns what is given that leaves a state, or `None` where nothing is picked in its string.
+#[inline]
+pub(super) fn given_at<A: Automaton>(
+    automaton: &A,
+    commits: &Commits<A::Memory>,
+    start: StateID,
+    state: StateID,
+) -> Option<Given>
+    requires on { reads_on (A.seen automaton.now).built ≡ true }
+    requires starts { (A.seen automaton.now).stands No start (Some []) }
+    requires commits { AreCommits (A.seen automaton.now) commits.now }
+    requires state { IsState ((A.seen automaton.now).stands No) state }
+    ensures { GivesOf (A.seen automaton.now) commits.now.chains state result }
+{
+    if automaton.is_match(state) {
+        return Some(Given {
+            pattern: automaton.match_pattern(state, 0),
+            rest: 0,
+            next: start,
+            chain: None,
+        });
+    }
+    let Some(commit) = commits.of(state) else {
+        return None;
+    };
+    Some(Given {
+        pattern: commit.pattern,
+        rest: commit.rest,
+        next: commit.next,
+        chain: Some(commit.chain),
+    })
+}
+
+/// Returns the next match of a chain, if one is left, and what is to be given after it.
+#[inline]
+pub(super) fn take_next<A: Automaton>(
+    automaton: &A,
+    chains: &Chains<A::Memory>,
+    rest: &mut Option<ChainRest>,
+) -> Option<Match>
+    requires may { IfSome rest.old (MayTakeFrom (A.seen automaton.now).built chains.now) }
+    ensures { TakesKnown (A.seen automaton.now).built chains.now rest.old result rest.new }
+{
+    let Some(old) = *rest else {
+        return None;
+    };
+    let Some(known) = chains.get(old.chain, old.index) else {
+        *rest = None;
+        return None;
+    };
+    *rest = Some(ChainRest {
+        chain: old.chain,
+        index: old.index + 1,
+        base: old.base,
+    });
+    Some(match_ending(automaton, known.pattern, old.base + known.end))
+}
+
+/// Reads on up to a byte that leads to the dead state, which it returns, or up to an offset. The cursor stays before that byte.
+#[inline]
+pub(super) fn read_alive<A: Automaton>(
+    automaton: &A,
+    to: usize,
+    cursor: &mut Cursor,
+    tape: &mut Tape<'_>,
+    looks: &mut Looks,
+) -> Option<u8>
+    requires may { MayReadAlive (A.seen automaton.now) tape.old to cursor.old }
+    ensures reads { ReadsUpTo (A.seen automaton.now) tape.old to cursor.old looks.old cursor.new result tape.new looks.new }
+    ensures comes { ReadsAlive (A.seen automaton.now) tape.old.bytes to cursor.old cursor.new result }
+{
+    let (mut state, mut at) = (cursor.state, cursor.at);
+    while at < to {
+        let byte = tape.read(at, looks);
+        let next = automaton.next_state(Anchored::No, state, byte, looks);
+        if automaton.is_dead(next) {
+            *cursor = Cursor { state, at };
+            return Some(byte);
+        }
+        state = next;
+        at += 1;
+    }
+    *cursor = Cursor { state, at };
+    None
+}
