@@ -1,4 +1,6 @@
-"""`random_lists.py COUNT` compares searches over random lists of patterns with a slow search that is written down here."""
+"""`random_lists.py COUNT` compares searches over random lists of patterns, and over all small ones, with a slow search that is
+written down here."""
+import itertools
 import random
 import sys
 
@@ -59,14 +61,10 @@ def random_text(numbers, letters, most):
     return letters[:0].join(letters[at:at + 1] for at in numbers.choices(range(len(letters)), k=numbers.randint(0, most)))
 
 
-def faults_of_list(numbers):
-    """Compares all searches over one random list, and yields what differs."""
-    letters = numbers.choice([b"ab", b"abAB", b"a\xff\0", "ab", "abA", "a\u00e9\u20ac\U0001f600", "e\u00e9E\u00c9"])
-    least = 0 if numbers.random() < 0.3 else 1
-    patterns = [letters[:least] + random_text(numbers, letters, 4) for _ in range(numbers.randint(0, 6))]
-    haystack = random_text(numbers, letters, 24)
+def faults_of(numbers, letters, patterns, haystack, kind):
+    """Compares all searches over a list under a match kind, with random settings and a random span, and yields what differs."""
     span = sorted(numbers.choices(range(len(haystack) + 1), k=2)) if numbers.random() < 0.5 else [0, len(haystack)]
-    kind, start = numbers.choice(KINDS), numbers.choice(STARTS)
+    start = numbers.choice(STARTS)
     anchored = start == "anchored" or start == "both" and numbers.random() < 0.5
     earliest, ignore_case = numbers.random() < 0.2, numbers.random() < 0.3
     slow = Slow(patterns, haystack, span, ignore_case, ORDERS["standard" if earliest else kind])
@@ -94,8 +92,39 @@ def faults_of_list(numbers):
             yield f"{call} of {patterns} in {haystack}, {settings}, {options}, {earliest}: {got}, and not {wanted}"
 
 
+def faults_of_random_list(numbers):
+    """Compares all searches over a random list, and yields what differs."""
+    letters = numbers.choice([b"ab", b"abAB", b"a\xff\0", "ab", "abA", "a\u00e9\u20ac\U0001f600", "e\u00e9E\u00c9"])
+    least = 0 if numbers.random() < 0.3 else 1
+    patterns = [letters[:least] + random_text(numbers, letters, 4) for _ in range(numbers.randint(0, 6))]
+    yield from faults_of(numbers, letters, patterns, random_text(numbers, letters, 24), numbers.choice(KINDS))
+
+
+def all_words(most):
+    """Returns the words over two letters that have at most so many."""
+    return [bytes(word) for length in range(most + 1) for word in itertools.product(b"ab", repeat=length)]
+
+
+def text_of_all_words(length):
+    """Returns a text in which each word over two letters of this length occurs once."""
+    text = b"a" * length
+    while more := next((letter for letter in (b"b", b"a") if text[1 - length:] + letter not in text), None):
+        text += more
+    return text
+
+
+def faults_of_small_lists(numbers):
+    """Compares all searches over each list of at most three words of at most three letters, and yields what differs."""
+    words, haystack = all_words(3), text_of_all_words(6)
+    for count in range(4):
+        for patterns in itertools.product(words, repeat=count):
+            for kind in KINDS:
+                yield from faults_of(numbers, b"abAB", list(patterns), haystack, kind)
+
+
 if __name__ == "__main__":
     COUNT = int(sys.argv[1])
-    faults = [fault for seed in range(COUNT) for fault in faults_of_list(random.Random(seed))]
-    print(*faults[:20], f"{COUNT} random lists, {len(faults)} faults found", sep="\n")
+    faults = [fault for seed in range(COUNT) for fault in faults_of_random_list(random.Random(seed))]
+    faults += faults_of_small_lists(random.Random(COUNT))
+    print(*faults[:20], f"{COUNT} random lists and all small ones, {len(faults)} faults found", sep="\n")
     sys.exit(1 if faults else 0)
