@@ -4,12 +4,9 @@ ghost use Rattle.ac_search.specs.Built.{find_refusal, walk_result, AreTexts};
 ghost use Rattle.ac_search.specs.Input.{whole_input};
 
 use crate::MatchKind::{LeftmostFirst, LeftmostLongest, Standard};
-use crate::StartKind::{Both, Unanchored};
+use crate::StartKind::Both;
 use crate::laws::{answers_cut_no_character, answers_lie_inside};
-use crate::{
-    AhoCorasick, AhoCorasickBuilder, AhoCorasickKind, Anchored, Input, Match, MatchError,
-    MatchKind, OverlappingState, StartKind,
-};
+use crate::{AhoCorasick, AhoCorasickBuilder, AhoCorasickKind, Input, Match, MatchKind, StartKind};
 use std::alloc::{AllocError, Global};
 use std::fmt::Debug;
 use std::process::Abort;
@@ -195,23 +192,6 @@ fn same_lengths(rt: &impl Abort, searcher: &AhoCorasick, wanted: (usize, usize, 
     same(rt, lengths_of(searcher), wanted);
 }
 
-#[test]
-fn a_new_searcher_reports_its_settings(rt: HostRuntime) -> Result<(), Fail> {
-    let searcher = AhoCorasick::new(rt.alloc(), &[b"foo", b"bar", b"quux", b"baz"])?;
-    same_kinds(&rt, &searcher, AhoCorasickKind::DFA, Standard, Unanchored);
-    same_lengths(&rt, &searcher, (3, 4, 4));
-    assert!(rt; searcher.memory_usage() > 0);
-    Ok(())
-}
-
-#[test]
-fn a_searcher_over_nothing_reports_no_lengths(rt: HostRuntime) -> Result<(), Fail> {
-    let empty = AhoCorasick::new(rt.alloc(), &[])?;
-    same_lengths(&rt, &empty, (usize::MAX, 0, 0));
-    same(&rt, empty.try_find(Input::new(b"ushers"))?, None);
-    Ok(())
-}
-
 /// A builder can be used again after a build, and with other settings.
 #[test]
 fn each_setting_counts(rt: HostRuntime) -> Result<(), Fail> {
@@ -254,27 +234,5 @@ fn a_searcher_is_shown(rt: HostRuntime) -> Result<(), Fail> {
     let shown = format!(in alloc; "{searcher:?}")?;
     let wanted = "AhoCorasick { kind: DFA, match_kind: Standard, patterns: 2 }";
     same(&rt, shown.as_str(), wanted);
-    Ok(())
-}
-
-/// Returns the second match of a listing by a state, and by a clone of it that was made after the first one.
-fn seconds_of(
-    searcher: &AhoCorasick,
-    input: Input<'_>,
-) -> Result<(Option<Match>, Option<Match>), MatchError> {
-    let mut state = OverlappingState::start();
-    searcher.try_find_overlapping(input, &mut state)?;
-    let mut clone = state.clone();
-    searcher.try_find_overlapping(input, &mut state)?;
-    searcher.try_find_overlapping(input, &mut clone)?;
-    Ok((state.get_match(), clone.get_match()))
-}
-
-#[test]
-fn a_state_is_cloned(rt: HostRuntime) -> Result<(), Fail> {
-    let searcher = AhoCorasick::new(rt.alloc(), &[b"a", b"aa"])?;
-    let (by_state, by_clone) = seconds_of(&searcher, Input::new(b"aa"))?;
-    same(&rt, by_state, Some(Match::must(1, 0..2)));
-    same(&rt, by_clone, Some(Match::must(1, 0..2)));
     Ok(())
 }

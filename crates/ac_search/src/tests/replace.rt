@@ -9,7 +9,7 @@ use super::{same, same_by};
 use crate::MatchKind::{LeftmostFirst, Standard};
 use crate::StartKind::{Both, Unanchored};
 use crate::laws::{closure_exchanges, text_closure_exchanges};
-use crate::{AhoCorasick, AhoCorasickBuilder, Match, MatchError, MatchKind, ReplaceError};
+use crate::{AhoCorasick, Match, MatchError, MatchKind, ReplaceError};
 use std::alloc::{AllocError, Global};
 use std::process::Abort;
 use std::test::Fail;
@@ -68,37 +68,19 @@ const ROWS: &[Row] = &[
     (&[], Standard, (&[], &[]), "abc", b"abc", "abc"),
 ];
 
-/// Compares the replacement of bytes, by the call that tests the searcher and by the one that doesn't.
-fn compare_bytes(
+/// Compares the replacement of bytes and of a text with what a row says.
+fn compare_replaced(
     rt: &impl Abort,
     alloc: Global,
     searcher: &AhoCorasick,
-    row: Row,
+    (_, _, (texts, bytes), haystack, in_bytes, in_text): Row,
 ) -> Result<(), Fail> {
-    let (_, _, (_, texts), haystack, wanted, _) = row;
-    assert!(rt; texts.len() == searcher.patterns_len());
-    let tried = searcher.try_replace_all_bytes(alloc, haystack.as_bytes(), texts)?;
-    same_by(rt, tried.as_slice(), wanted, searcher);
-    drop(tried);
-    let replaced = searcher.replace_all_bytes(alloc, haystack.as_bytes(), texts)?;
-    same_by(rt, replaced.as_slice(), wanted, searcher);
-    Ok(())
-}
-
-/// Does the same with a text.
-fn compare_text(
-    rt: &impl Abort,
-    alloc: Global,
-    searcher: &AhoCorasick,
-    row: Row,
-) -> Result<(), Fail> {
-    let (_, _, (texts, _), haystack, _, wanted) = row;
-    assert!(rt; texts.len() == searcher.patterns_len());
-    let tried = searcher.try_replace_all(alloc, haystack, texts)?;
-    same_by(rt, tried.as_str(), wanted, searcher);
-    drop(tried);
-    let replaced = searcher.replace_all(alloc, haystack, texts)?;
-    same_by(rt, replaced.as_str(), wanted, searcher);
+    let len = searcher.patterns_len();
+    assert!(rt; texts.len() == len && bytes.len() == len);
+    let replaced = searcher.try_replace_all_bytes(alloc, haystack.as_bytes(), bytes)?;
+    same_by(rt, replaced.as_slice(), in_bytes, searcher);
+    let replaced = searcher.try_replace_all(alloc, haystack, texts)?;
+    same_by(rt, replaced.as_str(), in_text, searcher);
     Ok(())
 }
 
@@ -109,8 +91,7 @@ fn each_engine_replaces_alike(rt: HostRuntime) -> Result<(), Fail> {
             for start_kind in [Unanchored, Both] {
                 let builder = builder_of(engine, row.1, start_kind);
                 let searcher = builder.build(rt.alloc(), row.0)?;
-                compare_bytes(&rt, rt.alloc(), &searcher, row)?;
-                compare_text(&rt, rt.alloc(), &searcher, row)?;
+                compare_replaced(&rt, rt.alloc(), &searcher, row)?;
             }
         }
     }
@@ -215,49 +196,43 @@ const CLOSURES: &[ClosureRow] = &[
     (&[b"\xC3"], "é", "", Act::Drop, "é", b"\xA9"),
 ];
 
-/// Compares what a closure leaves in a text, by the call that tests the searcher and by the one that doesn't.
-fn compare_closure_in_text(
-    rt: &impl Abort,
-    alloc: Global,
+/// Does this at each match of a text.
+fn act_on_text(
     searcher: &AhoCorasick,
-    row: ClosureRow,
-) -> Result<(), Fail> {
-    let (_, haystack, before, act, wanted, _) = row;
-    let mut tried = String::from_str(alloc, before)?;
-    searcher.try_replace_all_with(haystack, &mut tried, |m, _, destination| {
+    text: &str,
+    destination: &mut String,
+    act: Act,
+) -> Result<(), ReplaceError> {
+    searcher.try_replace_all_with(text, destination, |m, _, destination| {
         act_in_text(act, m.pattern().as_usize(), destination)
-    })?;
-    same_by(rt, tried.as_str(), wanted, searcher);
-    drop(tried);
-    let mut text = String::from_str(alloc, before)?;
-    searcher.replace_all_with(haystack, &mut text, |m, _, destination| {
-        act_in_text(act, m.pattern().as_usize(), destination)
-    })?;
-    same_by(rt, text.as_str(), wanted, searcher);
-    Ok(())
+    })
 }
 
-/// Does the same in bytes.
-fn compare_closure_in_bytes(
+/// Does this at each match of bytes.
+fn act_on_bytes(
+    searcher: &AhoCorasick,
+    haystack: &[u8],
+    destination: &mut Vec<u8>,
+    act: Act,
+) -> Result<(), ReplaceError> {
+    searcher.try_replace_all_with_bytes(haystack, destination, |m, slice, destination| {
+        act_in_bytes(act, m.pattern().as_usize(), slice, destination)
+    })
+}
+
+/// Compares what closures leave in a text and in bytes with what a row says.
+fn compare_closures(
     rt: &impl Abort,
     alloc: Global,
     searcher: &AhoCorasick,
-    row: ClosureRow,
+    (_, haystack, before, act, in_text, in_bytes): ClosureRow,
 ) -> Result<(), Fail> {
-    let (_, haystack, before, act, _, wanted) = row;
-    let mut tried = before.as_bytes().to_vec(alloc)?;
-    searcher.try_replace_all_with_bytes(
-        haystack.as_bytes(),
-        &mut tried,
-        |m, slice, destination| { act_in_bytes(act, m.pattern().as_usize(), slice, destination) },
-    )?;
-    same_by(rt, tried.as_slice(), wanted, searcher);
-    drop(tried);
+    let mut text = String::from_str(alloc, before)?;
+    act_on_text(searcher, haystack, &mut text, act)?;
+    same_by(rt, text.as_str(), in_text, searcher);
     let mut bytes = before.as_bytes().to_vec(alloc)?;
-    searcher.replace_all_with_bytes(haystack.as_bytes(), &mut bytes, |m, slice, destination| {
-        act_in_bytes(act, m.pattern().as_usize(), slice, destination)
-    })?;
-    same_by(rt, bytes.as_slice(), wanted, searcher);
+    act_on_bytes(searcher, haystack.as_bytes(), &mut bytes, act)?;
+    same_by(rt, bytes.as_slice(), in_bytes, searcher);
     Ok(())
 }
 
@@ -267,8 +242,7 @@ fn each_engine_calls_closures_alike(rt: HostRuntime) -> Result<(), Fail> {
         let builder = builder_of(engine, LeftmostFirst, Unanchored);
         for &row in CLOSURES {
             let searcher = builder.build(rt.alloc(), row.0)?;
-            compare_closure_in_text(&rt, rt.alloc(), &searcher, row)?;
-            compare_closure_in_bytes(&rt, rt.alloc(), &searcher, row)?;
+            compare_closures(&rt, rt.alloc(), &searcher, row)?;
         }
     }
     Ok(())
@@ -318,6 +292,9 @@ fn a_closure_in_text_needs_its_own_contract_alone(rt: HostRuntime) -> Result<(),
     Ok(())
 }
 
+/// Why a replacement is refused of a searcher that supports anchored searches alone.
+const REFUSED: ReplaceError = ReplaceError::Match(MatchError::InvalidInputUnanchored);
+
 /// Compares what replacements answer with a refusal, and what those by closures leave in the destination.
 pub(super) fn compare_refused(
     rt: &impl Abort,
@@ -327,42 +304,12 @@ pub(super) fn compare_refused(
     assert!(rt; searcher.patterns_len() == 1);
     let text = searcher.try_replace_all(alloc, "a", &["x"]).err();
     let bytes = searcher.try_replace_all_bytes(alloc, b"a", &[b"x"]).err();
-    same(rt, text, REFUSED);
-    same(rt, bytes, REFUSED);
-    compare_refused_in_text(rt, alloc, searcher)?;
-    compare_refused_in_bytes(rt, alloc, searcher)?;
-    Ok(())
-}
-
-/// Why a replacement is refused of a searcher that supports anchored searches alone.
-const REFUSED: Option<ReplaceError> = Some(ReplaceError::Match(MatchError::InvalidInputUnanchored));
-
-/// Compares what a replacement in text by a closure answers with a refusal, and what it leaves in the destination.
-fn compare_refused_in_text(
-    rt: &impl Abort,
-    alloc: Global,
-    searcher: &AhoCorasick,
-) -> Result<(), AllocError> {
+    same(rt, (text, bytes), (Some(REFUSED), Some(REFUSED)));
     let mut text = String::from_str(alloc, "pre")?;
-    let answer = searcher.try_replace_all_with("a", &mut text, |_, _, destination| {
-        act_in_text(Act::Clear, 0, destination)
-    });
-    same(rt, answer.err(), REFUSED);
-    same(rt, text.as_str(), "pre");
-    Ok(())
-}
-
-/// The same in bytes.
-fn compare_refused_in_bytes(
-    rt: &impl Abort,
-    alloc: Global,
-    searcher: &AhoCorasick,
-) -> Result<(), AllocError> {
+    let answer = act_on_text(searcher, "a", &mut text, Act::Clear);
+    same(rt, (answer, text.as_str()), (Err(REFUSED), "pre"));
     let mut bytes = b"pre".to_vec(alloc)?;
-    let answer = searcher.try_replace_all_with_bytes(b"a", &mut bytes, |_, _, destination| {
-        act_in_bytes(Act::Clear, 0, b"", destination)
-    });
-    same(rt, answer.err(), REFUSED);
-    same(rt, bytes.as_slice(), b"pre".as_slice());
+    let answer = act_on_bytes(searcher, b"a", &mut bytes, Act::Clear);
+    same(rt, (answer, bytes.as_slice()), (Err(REFUSED), b"pre"));
     Ok(())
 }

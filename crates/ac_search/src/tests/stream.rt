@@ -427,8 +427,10 @@ fn compare_refused_walk(
     refusal: MatchError,
 ) {
     let mut left = QUICK;
-    let matches = searcher.try_stream_find_iter(alloc, FromRead::new(&mut left));
-    let ended = end_of(matches.map(|_| ()));
+    let ended = match searcher.try_stream_find_iter(alloc, FromRead::new(&mut left)) {
+        Ok(_matches) => End::Whole,
+        Err(e) => end_of(Err(e)),
+    };
     same(rt, ended, End::Refused(refusal));
     same(rt, left, QUICK);
 }

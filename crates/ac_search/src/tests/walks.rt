@@ -1,7 +1,7 @@
 //! Each engine finds and walks as rows say.
 use super::engines::{ALL, EACH, Engine, builder_of, engines};
 use super::rows::{OTHERS, Row, Rows, Search, WHOLE, WHOLE_LEFTMOST, WHOLE_STANDARD};
-use super::{Triple, lengths_of, same_by, triple_of, triples_of, walk_of};
+use super::{Triple, lengths_of, same_by, triple_of, walk_of};
 use crate::StartKind::Unanchored;
 use crate::{AhoCorasick, AhoCorasickBuilder, Input};
 use std::alloc::{AllocError, Global};
@@ -17,9 +17,8 @@ fn answers_of(
     searcher: &AhoCorasick,
     input: Input<'_>,
 ) -> Result<(Vec<Triple>, Option<Triple>, bool), Fail> {
-    searcher.try_find(input)?;
-    let walk = triples_of(alloc, searcher.find_iter(input))?;
-    let found = searcher.find(input).as_ref().map(triple_of);
+    let walk = walk_of(alloc, searcher, input)?;
+    let found = searcher.try_find(input)?.as_ref().map(triple_of);
     Ok((walk, found, searcher.is_match(input)))
 }
 

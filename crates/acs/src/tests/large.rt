@@ -1,14 +1,9 @@
 //! Searchers past sizes at which a body might answer otherwise, or report lack of memory that wasn't refused.
-ghost use Rattle.std.specs.Iterator.{IsFinite};
-
 use super::same_by;
-use ac_search::MatchKind::{LeftmostFirst, LeftmostLongest, Standard};
 use ac_search::{
-    AhoCorasick, AhoCorasickBuilder, AhoCorasickKind, Anchored, Bytes, Input, Match, MatchKind,
-    Sink, StartKind, Written,
+    AhoCorasick, AhoCorasickBuilder, AhoCorasickKind, Bytes, Input, Match, Sink, Written,
 };
 use std::alloc::{AllocError, Global};
-use std::process::Abort;
 use std::test::Fail;
 
 /// How many words there are, each of which has states of its own: more than 10,000, and than 100,000 states.
@@ -23,13 +18,6 @@ const ENGINES: [Option<AhoCorasickKind>; 4] = [
     Some(AhoCorasickKind::NoncontiguousNFA),
     Some(AhoCorasickKind::ContiguousNFA),
     Some(AhoCorasickKind::DFA),
-];
-
-/// The start kinds, with an anchoring that each supports.
-const STARTS: [(StartKind, Anchored); 3] = [
-    (StartKind::Unanchored, Anchored::No),
-    (StartKind::Anchored, Anchored::Yes),
-    (StartKind::Both, Anchored::No),
 ];
 
 /// Returns words that begin with the digits of their number.
@@ -51,29 +39,7 @@ fn many(alloc: Global, byte: u8, text: &str) -> Result<Vec<u8>, AllocError> {
     Ok(bytes)
 }
 
-/// Returns a builder by these settings.
-fn builder_by(
-    kind: MatchKind,
-    engine: Option<AhoCorasickKind>,
-    start_kind: StartKind,
-) -> AhoCorasickBuilder {
-    let mut builder = AhoCorasickBuilder::new();
-    builder.match_kind(kind).kind(engine).start_kind(start_kind);
-    builder
-}
-
-/// Tests that a searcher, and a clone of it, finds the last of the words where it stands after a long front.
-fn finds_the_last(searcher: &AhoCorasick, input: Input<'_>) -> Result<(), Fail> {
-    for searcher in [searcher, &searcher.clone()?] {
-        let found = searcher.try_find(input)?;
-        if found.map(|m| (m.pattern().as_usize(), m.start())) != Some((WORDS - 1, LONG)) {
-            return Err(Fail::new(format_args!("{found:?}")));
-        }
-    }
-    Ok(())
-}
-
-/// Each engine over more than 100,000 states, by each kind and with each start, and its clone.
+/// A clone of each engine over more than 100,000 states finds the last of the words where it stands after a long front.
 #[test]
 fn many_states(rt: HostRuntime) -> Result<(), Fail> {
     let words = words(rt.alloc())?;
@@ -83,31 +49,14 @@ fn many_states(rt: HostRuntime) -> Result<(), Fail> {
         .collect(rt.alloc())?;
     let last = words.last().map_or("", |word| word.as_str());
     let haystack = many(rt.alloc(), b'x', last)?;
-    assert!(rt; LONG <= haystack.len());
-    for kind in [Standard, LeftmostFirst, LeftmostLongest] {
-        for engine in ENGINES {
-            for (start_kind, anchored) in STARTS {
-                let builder = builder_by(kind, engine, start_kind);
-                let searcher = builder.build(rt.alloc(), &patterns)?;
-                let whole = Input::new(&haystack).anchored(anchored);
-                let start = if anchored.is_anchored() { LONG } else { 0 };
-                finds_the_last(&searcher, whole.range(start..haystack.len()))?;
-            }
-        }
+    for engine in ENGINES {
+        let mut builder = AhoCorasickBuilder::new();
+        let searcher = builder.kind(engine).build(rt.alloc(), &patterns)?;
+        let found = searcher.clone()?.try_find(Input::new(&haystack))?;
+        let found = found.map(|m| (m.pattern().as_usize(), m.start()));
+        same_by(&rt, found, Some((WORDS - 1, LONG)), &engine);
     }
     Ok(())
-}
-
-/// Returns how many items an iterator gives.
-fn len_of<I: Iterator<Item = Match>>(items: I) -> usize
-    requires can { I.can_next items }
-    requires finite { IsFinite (I.remaining items) }
-{
-    let mut len = 0usize;
-    for _ in items {
-        len = len.saturating_add(1);
-    }
-    len
 }
 
 /// What each match is exchanged for.
@@ -150,105 +99,20 @@ fn exchanged_stream(
     Ok(writer)
 }
 
-/// Compares what closures exchange, in text, in bytes and in a stream, with what a list does.
-fn compare_closures(
-    rt: &impl Abort,
-    alloc: Global,
-    searcher: &AhoCorasick,
-    haystack: &[u8],
-    replaced: &[u8],
-) -> Result<(), Fail> {
-    let text = exchanged_text(alloc, searcher, str::from_utf8(haystack)?)?;
-    same_by(rt, text.as_bytes() == replaced, true, &"text");
-    drop(text);
-    let bytes = exchanged_bytes(alloc, searcher, haystack)?;
-    same_by(rt, bytes.as_slice() == replaced, true, &"bytes");
-    drop(bytes);
-    let writer = exchanged_stream(alloc, searcher, haystack)?;
-    same_by(rt, writer.bytes() == replaced, true, &"stream");
-    Ok(())
-}
-
-/// Compares how many matches a walk has, each of which is a byte, and how long all is with each exchanged for two bytes.
-/// What closures exchange is the same.
-fn compare_many(
-    rt: &impl Abort,
-    alloc: Global,
-    searcher: &AhoCorasick,
-    input: Input<'_>,
-) -> Result<(), Fail> {
-    let len = len_of(searcher.try_find_iter(input)?);
-    same_by(rt, len, LONG, &searcher.kind());
-    if input.get_anchored().is_anchored() {
-        return Ok(());
-    }
-    assert!(rt; searcher.patterns_len() == 1);
-    let haystack = input.haystack();
-    let replaced = searcher.try_replace_all_bytes(alloc, haystack, &[TEXT.as_bytes()])?;
-    same_by(rt, replaced.len(), 2 * LONG, &searcher.kind());
-    compare_closures(rt, alloc, searcher, haystack, &replaced)
-}
-
-/// Each engine over more than a million matches, exchanged too, by each kind and with each start.
+/// More than a million matches that are exchanged for two bytes each, by a list and by closures: in bytes, in text and in a
+/// stream.
 #[test]
 fn many_matches(rt: HostRuntime) -> Result<(), Fail> {
-    let haystack = many(rt.alloc(), b'a', "")?;
-    for kind in [Standard, LeftmostFirst, LeftmostLongest] {
-        for engine in ENGINES {
-            for (start_kind, anchored) in STARTS {
-                let builder = builder_by(kind, engine, start_kind);
-                let searcher = builder.build(rt.alloc(), &[b"a"])?;
-                let input = Input::new(&haystack).anchored(anchored);
-                compare_many(&rt, rt.alloc(), &searcher, input)?;
-            }
-        }
-    }
-    Ok(())
-}
-
-/// The listing of more than a million items, by each engine.
-#[test]
-fn many_items(rt: HostRuntime) -> Result<(), Fail> {
-    let haystack = many(rt.alloc(), b'a', "")?;
-    for engine in ENGINES {
-        let builder = builder_by(Standard, engine, StartKind::Both);
-        let searcher = builder.build(rt.alloc(), &[b"a", b"aa"])?;
-        let items = searcher.try_find_overlapping_iter(Input::new(&haystack))?;
-        same_by(&rt, len_of(items), 2 * LONG - 1, &engine);
-    }
-    Ok(())
-}
-
-/// How often a needle stands in a burst, after which a search no longer looks for it by itself for a while.
-const BURST: usize = 5_000;
-
-/// Returns a burst of the needle `aab`, then bytes of which none ends it, and then the needle.
-fn burst_and_gap(alloc: Global, gap: &[u8]) -> Result<Vec<u8>, AllocError> {
-    let mut bytes = Vec::new(alloc);
-    for _ in 0..BURST {
-        bytes.extend_from_slice(b"aab")?;
-    }
-    for _ in 0..LONG / 4 {
-        bytes.extend_from_slice(gap)?;
-    }
-    bytes.extend_from_slice(b"aab")?;
-    Ok(bytes)
-}
-
-/// A needle after a burst of it and a long gap, by each engine and kind: where the gap leaves the automaton at its start,
-/// where it never does, and where it does at times.
-#[test]
-fn a_needle_after_a_burst(rt: HostRuntime) -> Result<(), Fail> {
-    for gap in [b"x".as_slice(), b"a", b"xaax"] {
-        let haystack = burst_and_gap(rt.alloc(), gap)?;
-        for kind in [Standard, LeftmostFirst, LeftmostLongest] {
-            for engine in ENGINES {
-                let builder = builder_by(kind, engine, StartKind::Unanchored);
-                let searcher = builder.build(rt.alloc(), &[b"aab"])?;
-                let matches = searcher.try_find_iter(Input::new(&haystack))?;
-                same_by(&rt, len_of(matches), BURST + 1, &engine);
-            }
-        }
-    }
+    let alloc = rt.alloc();
+    let haystack = many(alloc, b'a', "")?;
+    let searcher = AhoCorasick::new(alloc, &[b"a"])?;
+    let replaced = searcher.try_replace_all_bytes(alloc, &haystack, &[TEXT.as_bytes()])?;
+    same_by(&rt, replaced.len(), 2 * LONG, &"list");
+    let text = exchanged_text(alloc, &searcher, str::from_utf8(&haystack)?)?;
+    same_by(&rt, text.as_bytes() == replaced.as_slice(), true, &"text");
+    let bytes = exchanged_bytes(alloc, &searcher, &haystack)?;
+    same_by(&rt, bytes.as_slice() == replaced.as_slice(), true, &"bytes");
+    let writer = exchanged_stream(alloc, &searcher, &haystack)?;
+    same_by(&rt, writer.bytes() == replaced.as_slice(), true, &"stream");
     Ok(())
 }

@@ -1,17 +1,16 @@
-//! Streams over all lists of at most two short patterns, cut in every way, and the plain search beside them.
+//! Streams by lists of at most two short patterns, cut in every way, and the plain search beside them.
 ghost use Rattle.std.specs.Prelude.{◌≡◌, length};
 
-use super::all_of;
-use super::small::{ENGINES, words};
 use ac_search::MatchKind::{LeftmostFirst, LeftmostLongest, Standard};
 use ac_search::plain::{Query, replace_walk, walk};
 use ac_search::{
-    AhoCorasick, AhoCorasickBuilder, Anchored, FromRead, Match, MatchKind, Sink, StreamError,
-    StreamFindIter, Written,
+    AhoCorasick, AhoCorasickBuilder, AhoCorasickKind, Anchored, FromRead, Input, Match, Sink, Span,
+    StreamError, Written,
 };
-use std::alloc::Global;
+use std::alloc::{AllocError, Global};
 use std::io;
 use std::io::{ErrorKind, Read};
+use std::process::Abort;
 use std::test::Fail;
 
 /// How many words over two letters have at most three letters.
@@ -23,24 +22,20 @@ const HAYSTACKS: usize = 63;
 /// What the patterns of a list are exchanged for.
 const TEXTS: [&[u8]; 2] = [b"-", b"bab"];
 
+/// The engines, of which another one serves from list to list.
+const ENGINES: [AhoCorasickKind; 3] = [
+    AhoCorasickKind::NoncontiguousNFA,
+    AhoCorasickKind::ContiguousNFA,
+    AhoCorasickKind::DFA,
+];
+
 /// Gives its bytes up to the next cut a call, and after them the end or a failure.
-#[derive(Drop)]
+#[derive(Clone, Copy)]
 struct Cut<'a> {
     left: &'a [u8],
     /// Bit by bit, the lowest first: whether a read ends after the next byte.
     cuts: u32,
     fails: bool,
-}
-
-impl<'a> Cut<'a> {
-    /// Returns a reader of a stream.
-    fn new(stream: &'a [u8], cuts: u32, fails: bool) -> Cut<'a> {
-        Cut {
-            left: stream,
-            cuts,
-            fails,
-        }
-    }
 }
 
 impl<'a> Read for Cut<'a> {
@@ -61,149 +56,24 @@ impl<'a> Read for Cut<'a> {
     }
 }
 
-/// A list of patterns and a match kind, a stream, and what the plain search gives for all of it.
-#[derive(Drop)]
-struct Wanted<'a> {
-    patterns: &'a [&'a [u8]],
-    kind: MatchKind,
-    stream: &'a [u8],
-    walk: Vec<Match>,
-    replaced: Vec<u8>,
-}
-
-/// Returns what the plain search gives for a list of patterns.
-fn wanted_for<'a>(
-    alloc: Global,
-    patterns: &'a [&'a [u8]],
-    kind: MatchKind,
-    stream: &'a [u8],
-) -> Result<Wanted<'a>, Fail> {
-    let Some(texts) = TEXTS.get(..patterns.len()) else {
-        return Err(Fail::new("no list is so long here"));
-    };
-    let query = Query::new(patterns, false, stream, Anchored::No, all_of(stream));
-    Ok(Wanted {
-        patterns,
-        kind,
-        stream,
-        walk: walk(alloc, kind, &query)?,
-        replaced: replace_walk(alloc, kind, &query, texts)?,
-    })
-}
-
-/// Returns how many bytes the longest of the patterns has.
-fn longest_of(patterns: &[&[u8]]) -> usize {
-    let mut longest = 0;
-    for pattern in patterns {
-        longest = pattern.len().max(longest);
-    }
-    longest
-}
-
-impl<'a> Wanted<'a> {
-    /// Returns whether some pattern that takes part begins with what follows a place, and is longer.
-    fn is_open(&self, place: usize) -> bool {
-        let rest = self.stream.get(place..).unwrap_or(&[]);
-        let mut open = false;
-        for (number, pattern) in self.patterns.iter().enumerate() {
-            let mut takes_part = true;
-            if self.kind == LeftmostFirst {
-                for earlier in self.patterns.iter().take(number) {
-                    takes_part = takes_part && !pattern.starts_with(earlier);
-                }
-            }
-            open = open || takes_part && pattern.len() > rest.len() && pattern.starts_with(rest);
-        }
-        open && !rest.is_empty()
-    }
-
-    /// Returns whether a place from one up to another is open.
-    fn is_open_between(&self, from: usize, to: usize) -> bool {
-        let mut open = false;
-        for place in from..to {
-            open = open || self.is_open(place);
-        }
-        open
-    }
-
-    /// Returns how many matches settle the stream up to a place, if they do: no byte to come can change that these are its
-    /// first ones, and that no other starts before the place.
-    fn settled_at(&self, place: usize) -> Option<usize> {
-        if self.kind == Standard {
-            let ended = self.walk.last().map_or(0, |m| m.end());
-            let beyond = self.stream.len().saturating_sub(ended);
-            let held = longest_of(self.patterns).saturating_sub(1).min(beyond);
-            let settled = self.stream.len().saturating_sub(held);
-            return (place == settled).then_some(self.walk.len());
-        }
-        let (mut given, mut ended) = (0_usize, 0);
-        for m in self.walk.iter().take_while(|m| m.end() <= place) {
-            if self.is_open_between(ended, m.start().saturating_add(1)) {
-                return None;
-            }
-            (given, ended) = (given.saturating_add(1), m.end());
-        }
-        let later = self.walk.get(given).map_or(place, |m| m.start());
-        let near = self.stream.len() <= place.saturating_add(longest_of(self.patterns));
-        (near && later >= place && !self.is_open_between(ended, place)).then_some(given)
-    }
-
-    /// Returns the replaced text up to a place, with so many matches exchanged.
-    fn text_up_to(&self, alloc: Global, given: usize, place: usize) -> Result<Vec<u8>, Fail> {
-        let mut text = Vec::new(alloc);
-        let mut from = 0;
-        for m in self.walk.iter().take(given) {
-            text.extend_from_slice(self.stream.get(from..m.start()).unwrap_or(&[]))?;
-            if let Some(exchanged) = TEXTS.get(m.pattern().as_usize()) {
-                text.extend_from_slice(exchanged)?;
-            }
-            from = m.end();
-        }
-        text.extend_from_slice(self.stream.get(from..place).unwrap_or(&[]))?;
-        Ok(text)
-    }
-}
-
-/// Returns how many of the wanted matches a stream gives before it ends or fails, and whether it ends; or `None` where it gives
-/// another one.
-fn given_by<'a>(
-    matches: &mut StreamFindIter<'a, FromRead<Cut<'_>>>,
-    wanted: &[Match],
-) -> Option<(usize, bool)> {
-    let mut given = 0_usize;
-    loop {
-        match matches.next() {
-            None => return Some((given, true)),
-            Some(Err(_)) => return Some((given, false)),
-            Some(Ok(found)) if Some(&found) == wanted.get(given) => {
-                given = given.saturating_add(1);
-            }
-            Some(Ok(_)) => return None,
-        }
-    }
-}
-
-/// Returns whether a stream has these matches to its end; or where it fails, so many of them as settle it up to where bytes are
-/// kept.
+/// Returns whether a stream gives the matches of the walk to its end; or where it fails, the first of them and nothing more.
 fn gives(
     alloc: Global,
     searcher: &AhoCorasick,
-    reader: Cut<'_>,
-    wanted: &Wanted<'_>,
+    cut: Cut<'_>,
+    walk: &[Match],
 ) -> Result<bool, Fail> {
-    let fails = reader.fails;
-    let mut matches = searcher.try_stream_find_iter(alloc, FromRead::new(reader))?;
-    let Some((given, ended)) = given_by(&mut matches, &wanted.walk) else {
-        return Ok(false);
-    };
-    let kept = matches.kept_len();
-    let ends_so = if fails {
-        let place = wanted.stream.len().saturating_sub(kept);
-        !ended && wanted.settled_at(place) == Some(given)
-    } else {
-        ended && given == wanted.walk.len() && kept == 0
-    };
-    Ok(ends_so && matches.next().is_none())
+    let fails = cut.fails;
+    let mut left = walk;
+    let mut matches = searcher.try_stream_find_iter(alloc, FromRead::new(cut))?;
+    loop {
+        match (matches.next(), left) {
+            (None, left) => return Ok(!fails && left.is_empty()),
+            (Some(Err(_)), _) => return Ok(fails && matches.next().is_none()),
+            (Some(Ok(found)), [first, rest @ ..]) if found == *first => left = rest,
+            (Some(Ok(_)), _) => return Ok(false),
+        }
+    }
 }
 
 /// How matches are exchanged: by a list, or by a closure that writes the text of the pattern.
@@ -217,14 +87,14 @@ enum Form {
 fn exchange(
     alloc: Global,
     searcher: &AhoCorasick,
-    reader: Cut<'_>,
+    cut: Cut<'_>,
     writer: &mut Written<Global>,
     texts: &[&[u8]],
     form: Form,
 ) -> Result<(), StreamError>
     requires { length texts.now ≡ length searcher.now.built.patterns }
 {
-    let mut reader = FromRead::new(reader);
+    let mut reader = FromRead::new(cut);
     match form {
         Form::List => searcher.try_stream_replace_all(alloc, &mut reader, writer, texts),
         Form::Closure => searcher.try_stream_replace_all_with(
@@ -241,62 +111,73 @@ fn exchange(
     }
 }
 
-/// Returns whether this is written in place of a stream, or so much of it as is settled where the stream fails.
+/// Returns whether the replaced text is written in place of a stream, or a beginning of it where the stream fails.
 fn writes(
+    rt: &impl Abort,
     alloc: Global,
     searcher: &AhoCorasick,
-    reader: Cut<'_>,
+    cut: Cut<'_>,
     form: Form,
-    wanted: &Wanted<'_>,
-) -> Result<bool, Fail> {
-    let Some(texts) = TEXTS.get(..searcher.patterns_len()) else {
-        return Err(Fail::new("no list is so long here"));
-    };
-    let fails = reader.fails;
+    replaced: &[u8],
+) -> bool {
+    let fails = cut.fails;
+    let texts = &TEXTS[..searcher.patterns_len().min(TEXTS.len())];
+    assert!(rt; texts.len() == searcher.patterns_len());
     let mut writer = Written::new(alloc);
-    let ended = exchange(alloc, searcher, reader, &mut writer, texts, form);
-    Ok(match ended {
-        Ok(()) => !fails && writer.bytes() == wanted.replaced.as_slice(),
-        Err(StreamError::Io(_)) => fails && is_settled_text(alloc, wanted, writer.bytes())?,
+    match exchange(alloc, searcher, cut, &mut writer, texts, form) {
+        Ok(()) => !fails && writer.bytes() == replaced,
+        Err(StreamError::Io(_)) => fails && replaced.starts_with(writer.bytes()),
         Err(_) => false,
-    })
-}
-
-/// Returns whether this is the replaced text up to a place up to which the stream is settled.
-fn is_settled_text(alloc: Global, wanted: &Wanted<'_>, text: &[u8]) -> Result<bool, Fail> {
-    let mut settled = false;
-    for place in 0..wanted.stream.len().saturating_add(1) {
-        if let Some(given) = wanted.settled_at(place) {
-            settled = settled || wanted.text_up_to(alloc, given, place)?.as_slice() == text;
-        }
     }
-    Ok(settled)
 }
 
-/// Compares a searcher with the plain search over a stream that is cut in every way, and ends or fails.
-fn compare_cuts(alloc: Global, searcher: &AhoCorasick, wanted: &Wanted<'_>) -> Result<(), Fail> {
-    let stream = wanted.stream;
+/// Returns the span of a whole haystack.
+fn all_of(haystack: &[u8]) -> Span
+    ensures { result ≡ record { start = 0; end = length haystack.now } }
+{
+    Span {
+        start: 0,
+        end: haystack.len(),
+    }
+}
+
+/// Compares the walk in memory, and those of the stream that is cut in every way, and ends or fails, with the plain search.
+fn compare_cuts(
+    rt: &impl Abort,
+    alloc: Global,
+    searcher: &AhoCorasick,
+    patterns: &[&[u8]],
+    stream: &[u8],
+) -> Result<(), Fail> {
+    let texts = &TEXTS[..patterns.len().min(TEXTS.len())];
+    assert!(rt; texts.len() == patterns.len());
+    let query = Query::new(patterns, false, stream, Anchored::No, all_of(stream));
+    let walk = walk(alloc, searcher.match_kind(), &query)?;
+    let replaced = replace_walk(alloc, searcher.match_kind(), &query, texts)?;
+    let walked: Vec<Match> = searcher.try_find_iter(Input::new(stream))?.collect(alloc)?;
+    assert!(rt; walked.as_slice() == walk.as_slice());
     for cuts in 0..16 {
         for fails in [false, true] {
-            let mut same = gives(alloc, searcher, Cut::new(stream, cuts, fails), wanted)?;
-            for form in [Form::List, Form::Closure] {
-                let reader = Cut::new(stream, cuts, fails);
-                same = same && writes(alloc, searcher, reader, form, wanted)?;
-            }
-            if !same {
-                return Err(Fail::new(format_args!("{stream:?} cut by {cuts}: {fails}")));
-            }
+            let cut = Cut {
+                left: stream,
+                cuts,
+                fails,
+            };
+            assert!(rt; gives(alloc, searcher, cut, &walk)?);
+            assert!(rt; writes(rt, alloc, searcher, cut, Form::List, &replaced));
+            assert!(rt; writes(rt, alloc, searcher, cut, Form::Closure, &replaced));
         }
     }
     Ok(())
 }
 
 /// Compares one of the engines under each match kind for a list of patterns, another one from list to list.
-fn compare<'a>(
+fn compare(
+    rt: &impl Abort,
     alloc: Global,
     number: usize,
-    patterns: &'a [&'a [u8]],
-    streams: &'a [Vec<u8>],
+    patterns: &[&[u8]],
+    streams: &[Vec<u8>],
 ) -> Result<(), Fail> {
     for kind in [Standard, LeftmostFirst, LeftmostLongest] {
         let mut builder = AhoCorasickBuilder::new();
@@ -304,23 +185,45 @@ fn compare<'a>(
         builder.prefilter(number % 2 == 0).dense_depth(number % 5);
         let searcher = builder.build(alloc, patterns)?;
         for stream in streams {
-            let wanted = wanted_for(alloc, patterns, kind, stream)?;
-            compare_cuts(alloc, &searcher, &wanted)?;
+            compare_cuts(rt, alloc, &searcher, patterns, stream)?;
         }
     }
     Ok(())
 }
 
+/// Returns the word of a number: its letters are the digits of the number, from 1 on, the least one first.
+fn word(alloc: Global, number: usize) -> Result<Vec<u8>, AllocError> {
+    let mut word = Vec::new(alloc);
+    let mut left = number;
+    for _ in 0..usize::BITS {
+        if left > 0 {
+            word.push(b"ab"[(left - 1) % 2])?;
+            left = (left - 1) / 2;
+        }
+    }
+    Ok(word)
+}
+
+/// Returns the first words over two letters, shorter ones first.
+fn words(alloc: Global, count: usize) -> Result<Vec<Vec<u8>>, AllocError> {
+    let mut words = Vec::new(alloc);
+    for number in 0..count {
+        words.push(word(alloc, number)?)?;
+    }
+    Ok(words)
+}
+
 #[test]
 fn streams_are_cut_in_every_way(rt: HostRuntime) -> Result<(), Fail> {
     let alloc = rt.alloc();
-    let streams = words(alloc, *b"ab", HAYSTACKS)?;
-    let patterns = words(alloc, *b"ab", PATTERNS)?;
-    compare(alloc, 0, &[], &streams)?;
+    let streams = words(alloc, HAYSTACKS)?;
+    let patterns = words(alloc, PATTERNS)?;
+    compare(&rt, alloc, 0, &[], &streams)?;
     for (number, first) in patterns.iter().enumerate().skip(1) {
-        compare(alloc, number, &[first], &streams)?;
+        compare(&rt, alloc, number, &[first], &streams)?;
         for (more, second) in patterns.iter().enumerate().skip(1) {
-            compare(alloc, number.wrapping_add(more), &[first, second], &streams)?;
+            let number = number.wrapping_add(more);
+            compare(&rt, alloc, number, &[first, second], &streams)?;
         }
     }
     Ok(())
