@@ -1,4 +1,4 @@
-//! What holds of searchers for every engine and setting past large sizes, and where memory is refused.
+//! Searchers over streams that are cut, past large sizes, and where memory is refused, and what calls cost.
 mod costs;
 mod large;
 mod refused;

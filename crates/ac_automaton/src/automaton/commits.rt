@@ -20,11 +20,13 @@ pub struct ChainMatch {
 /// then the matches of a chain, which lie in the bytes after that, and stands at the next state.
 #[derive(Clone, Copy, Debug)]
 pub struct Commit {
+    /// The state that is left.
     pub state: StateID,
     /// The pattern of the match that is picked.
     pub pattern: PatternID,
     /// How many bytes of the state's string come after it.
     pub rest: usize,
+    /// The state at which the walk goes on.
     pub next: StateID,
     /// The number of the chain.
     pub chain: usize,
