@@ -18,7 +18,6 @@ mod devices;
 mod engines;
 mod examples;
 mod listings;
-mod readme;
 mod refusals;
 mod replace;
 mod rows;

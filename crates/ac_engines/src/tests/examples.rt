@@ -9,12 +9,19 @@ use ac_util::primitives::PatternID;
 use ac_util::search::{Anchored, Input, Match, MatchKind, StartKind};
 use std::test::Fail;
 
+/// Does what `assert_eq!` does, by a call: its proof takes half the time.
+macro_rules! are_equal {
+    ($rt:expr; $found:expr, $wanted:expr) => {
+        crate::tests::same(&$rt, $found, $wanted)
+    };
+}
+
 #[test]
 fn a_noncontiguous_nfa(rt: HostRuntime) -> Result<(), Fail> {
     let alloc = rt.alloc();
     let nfa = noncontiguous::NFA::new(alloc, &[b"he", b"she"])?;
     let found = nfa.try_find(Input::new(b"ushers"))?;
-    assert_eq!(rt; found, Some(Match::must(1, 1..4)));
+    are_equal!(rt; found, Some(Match::must(1, 1..4)));
     Ok(())
 }
 
@@ -23,7 +30,7 @@ fn a_contiguous_nfa(rt: HostRuntime) -> Result<(), Fail> {
     let alloc = rt.alloc();
     let nfa = contiguous::NFA::new(alloc, &[b"he", b"she"])?;
     let found = nfa.try_find(Input::new(b"ushers"))?;
-    assert_eq!(rt; found, Some(Match::must(1, 1..4)));
+    are_equal!(rt; found, Some(Match::must(1, 1..4)));
     Ok(())
 }
 
@@ -32,7 +39,7 @@ fn a_dfa(rt: HostRuntime) -> Result<(), Fail> {
     let alloc = rt.alloc();
     let dfa = dfa::DFA::new(alloc, &[b"he", b"she"])?;
     let found = dfa.try_find(Input::new(b"ushers"))?;
-    assert_eq!(rt; found, Some(Match::must(1, 1..4)));
+    are_equal!(rt; found, Some(Match::must(1, 1..4)));
     Ok(())
 }
 
@@ -45,7 +52,7 @@ fn noncontiguous_builders(rt: HostRuntime) -> Result<(), Fail> {
     let copy = builder.clone();
     let nfa = copy.build(alloc, &[b"Sam", b"Samwise"])?;
     let found = nfa.try_find(Input::new(b"SAMWISE"))?;
-    assert_eq!(rt; found, Some(Match::must(0, 0..3)));
+    are_equal!(rt; found, Some(Match::must(0, 0..3)));
     Ok(())
 }
 
@@ -57,7 +64,7 @@ fn contiguous_builders(rt: HostRuntime) -> Result<(), Fail> {
     builder.dense_depth(3).byte_classes(false).prefilter(false);
     let nfa = builder.build(alloc, &[b"Sam", b"Samwise"])?;
     let found = nfa.try_find(Input::new(b"Samwise"))?;
-    assert_eq!(rt; found, Some(Match::must(0, 0..3)));
+    are_equal!(rt; found, Some(Match::must(0, 0..3)));
     Ok(())
 }
 
@@ -69,7 +76,7 @@ fn dfa_builders(rt: HostRuntime) -> Result<(), Fail> {
     builder.start_kind(StartKind::Both).byte_classes(false);
     let dfa = builder.build(alloc, &[b"Sam", b"Samwise"])?;
     let input = Input::new(b"Samwise").anchored(Anchored::Yes);
-    assert_eq!(rt; dfa.try_find(input)?, Some(Match::must(0, 0..3)));
+    are_equal!(rt; dfa.try_find(input)?, Some(Match::must(0, 0..3)));
     Ok(())
 }
 
@@ -83,7 +90,7 @@ fn states_are_stepped_through(rt: HostRuntime) -> Result<(), Fail> {
     let he = nfa.next_state(anchored, h, b'e', &mut looks);
     assert!(rt; nfa.is_start(start) && !nfa.is_dead(he));
     assert!(rt; nfa.is_match(he) && nfa.match_len(he) == 1);
-    assert_eq!(rt; nfa.match_pattern(he, 0), PatternID::must(0));
+    are_equal!(rt; nfa.match_pattern(he, 0), PatternID::must(0));
     assert!(rt; nfa.is_match_or_dead(he) && nfa.is_special(start) && !nfa.is_special(h));
     let (state, index) = (he, 0);
     let taken = nfa.take_match(MatchRest { state, index });
@@ -99,7 +106,7 @@ fn a_dfa_from_a_noncontiguous_nfa(rt: HostRuntime) -> Result<(), Fail> {
     assert!(rt; builder.fits(&nfa));
     let dfa = builder.build_from_noncontiguous(alloc, &nfa)?;
     let found = dfa.try_find(Input::new(b"ushers"))?;
-    assert_eq!(rt; found, Some(Match::must(1, 1..4)));
+    are_equal!(rt; found, Some(Match::must(1, 1..4)));
     Ok(())
 }
 
@@ -111,7 +118,7 @@ fn a_contiguous_nfa_from_another(rt: HostRuntime) -> Result<(), Fail> {
     assert!(rt; builder.fits(&nfa));
     let nfa = builder.build_from_noncontiguous(alloc, &nfa)?;
     let found = nfa.try_find(Input::new(b"ushers"))?;
-    assert_eq!(rt; found, Some(Match::must(1, 1..4)));
+    are_equal!(rt; found, Some(Match::must(1, 1..4)));
     Ok(())
 }
 
@@ -119,25 +126,25 @@ fn a_contiguous_nfa_from_another(rt: HostRuntime) -> Result<(), Fail> {
 fn what_engines_have(rt: HostRuntime) -> Result<(), Fail> {
     let alloc = rt.alloc();
     let nfa = noncontiguous::NFA::new(alloc, &[b"foo", b"bar", b"quux"])?;
-    assert_eq!(rt; nfa.match_kind(), nfa.common().match_kind());
-    assert_eq!(rt; nfa.pattern_len(PatternID::must(2)), 4);
-    assert_eq!(rt; nfa.patterns_len(), 3);
-    assert_eq!(rt; (nfa.min_pattern_len(), nfa.max_pattern_len()), (3, 4));
+    are_equal!(rt; nfa.match_kind(), nfa.common().match_kind());
+    are_equal!(rt; nfa.pattern_len(PatternID::must(2)), 4);
+    are_equal!(rt; nfa.patterns_len(), 3);
+    are_equal!(rt; (nfa.min_pattern_len(), nfa.max_pattern_len()), (3, 4));
     assert!(rt; nfa.prefilter().is_some() && nfa.memory_usage() > 0);
     Ok(())
 }
 
 #[test]
 fn sizes(rt: HostRuntime) {
-    assert_eq!(rt; table_len(10, 5), Ok(320));
+    are_equal!(rt; table_len(10, 5), Ok(320));
     let (max, requested) = (2_147_483_646, 25_599_999_744); // where the last row would begin
     let refused = BuildError::StateIdOverflow { max, requested };
-    assert_eq!(rt; table_len(100_000_000, 8), Err(refused));
+    are_equal!(rt; table_len(100_000_000, 8), Err(refused));
 
-    assert_eq!(rt; format_of(1, 2, 1, 0), Format::Dense);
-    assert_eq!(rt; format_of(2, 2, 1, 0), Format::One);
-    assert_eq!(rt; format_of(2, 2, 1, 1), Format::Sparse);
+    are_equal!(rt; format_of(1, 2, 1, 0), Format::Dense);
+    are_equal!(rt; format_of(2, 2, 1, 0), Format::One);
+    are_equal!(rt; format_of(2, 2, 1, 1), Format::Sparse);
 
-    assert_eq!(rt; state_words(Format::Dense, 3, 1, 0), 5);
-    assert_eq!(rt; state_words(Format::Sparse, 30, 5, 2), 12); // 2 + 2 + 5 + 3
+    are_equal!(rt; state_words(Format::Dense, 3, 1, 0), 5);
+    are_equal!(rt; state_words(Format::Sparse, 30, 5, 2), 12); // 2 + 2 + 5 + 3
 }

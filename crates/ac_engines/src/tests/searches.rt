@@ -354,10 +354,13 @@ fn a_dfa_is_shown(rt: HostRuntime) -> Result<(), Fail> {
 /// A stream that is refused.
 const STREAM: &[u8] = b"abc";
 
+/// Patterns that no stream is searched for.
+const WITH_EMPTY: [&[u8]; 2] = [b"a", b""];
+
 /// Tests that an automaton refuses a stream for this, and leaves the reader that it was lent as it was.
-fn compare_refusal<A: Automaton>(
+fn compare_refusal<A: Automaton + Drop>(
     alloc: Global,
-    automaton: &A,
+    automaton: A,
     refusal: MatchError,
 ) -> Result<(), Fail> {
     let mut left = STREAM;
@@ -370,13 +373,15 @@ fn compare_refusal<A: Automaton>(
 
 #[test]
 fn a_refused_stream_is_not_read(rt: HostRuntime) -> Result<(), Fail> {
-    let alloc = rt.alloc();
-    let trie = noncontiguous::NFA::new(alloc, &[b"a", b""])?;
-    let refusal = MatchError::UnsupportedEmpty;
-    compare_refusal(alloc, &trie, refusal)?;
-    compare_refusal(alloc, &contiguous_over(alloc, &trie)?, refusal)?;
-    compare_refusal(alloc, &dfa_over(alloc, &trie, StartKind::Both)?, refusal)?;
-    let trie = noncontiguous::NFA::new(alloc, &[b"a"])?;
-    let dfa = dfa_over(alloc, &trie, StartKind::Anchored)?;
-    compare_refusal(alloc, &dfa, MatchError::InvalidInputUnanchored)
+    let (alloc, refusal) = (rt.alloc(), MatchError::UnsupportedEmpty);
+    compare_refusal(alloc, noncontiguous::NFA::new(alloc, &WITH_EMPTY)?, refusal)?;
+    compare_refusal(alloc, contiguous::NFA::new(alloc, &WITH_EMPTY)?, refusal)?;
+    compare_refusal(alloc, dfa::DFA::new(alloc, &WITH_EMPTY)?, refusal)
+}
+
+#[test]
+fn a_stream_that_lacks_its_start_is_not_read(rt: HostRuntime) -> Result<(), Fail> {
+    let trie = noncontiguous::NFA::new(rt.alloc(), &[b"a"])?;
+    let dfa = dfa_over(rt.alloc(), &trie, StartKind::Anchored)?;
+    compare_refusal(rt.alloc(), dfa, MatchError::InvalidInputUnanchored)
 }

@@ -130,6 +130,8 @@ impl<A: Allocator> AhoCorasick<A> {
     /// As `try_stream_replace_all`; and `Io` where the closure failed: what it wrote stays written, and nothing
     /// follows. The law `closures_write_exchanged` says what was written by the stream alone.
     ///
+    /// A crate in which `?` makes an `io::Error` of what `write_all` returns has to list `ac_util`.
+    ///
     /// ```
     /// let searcher = AhoCorasick::new(alloc, &[b"fox", b"brown", b"quick"])?;
     /// let (mut reader, mut writer) = (Bytes::new(b"a fox"), Written::new(alloc));

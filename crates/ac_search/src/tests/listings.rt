@@ -97,7 +97,7 @@ fn listed_by_state(
 }
 
 /// Compares the listing of the searcher of a builder with what a row says: by a state, which is asked twice more, and if it isn't
-/// anchored by both calls that return an iterator.
+/// anchored by an iterator.
 fn compare_row(
     rt: &impl Abort,
     alloc: Global,
@@ -114,17 +114,10 @@ fn compare_row(
     let most = wanted.len().saturating_add(2);
     let by_state = listed_by_state(alloc, &searcher, input, most)?;
     same_by(rt, by_state.as_slice(), wanted, builder);
-    if anchored.is_anchored() {
-        return Ok(());
+    if !anchored.is_anchored() {
+        let listed = triples_of(alloc, searcher.try_find_overlapping_iter(input)?)?;
+        same_by(rt, listed.as_slice(), wanted, builder);
     }
-    let tried = triples_of(alloc, searcher.try_find_overlapping_iter(input)?)?;
-    let listed = triples_of(alloc, searcher.find_overlapping_iter(input))?;
-    same_by(
-        rt,
-        (tried.as_slice(), listed.as_slice()),
-        (wanted, wanted),
-        builder,
-    );
     Ok(())
 }
 

@@ -3,20 +3,27 @@ use crate::patterns::plain_byte;
 use crate::primitives::{PatternID, TooLarge};
 use crate::search::{Anchored, Input, Match, MatchKind, Span};
 
+/// Does what `assert_eq!` does, by a call: its proof takes half the time.
+macro_rules! are_equal {
+    ($rt:expr; $found:expr, $wanted:expr) => {
+        crate::tests::same(&$rt, $found, $wanted)
+    };
+}
+
 #[test]
 fn matches_and_spans(rt: HostRuntime) {
     let m = Match::must(1, 13..18);
-    assert_eq!(rt; m.pattern(), PatternID::must(1));
-    assert_eq!(rt; (m.start(), m.end(), m.len()), (13, 18, 5));
-    assert_eq!(rt; (m.span(), m.range()), (Span::from(13..18), 13..18));
+    are_equal!(rt; m.pattern(), PatternID::must(1));
+    are_equal!(rt; (m.start(), m.end(), m.len()), (13, 18, 5));
+    are_equal!(rt; (m.span(), m.range()), (Span::from(13..18), 13..18));
     assert!(rt; !m.is_empty());
-    assert_eq!(rt; m.offset(10), Match::must(1, 23..28));
-    assert_eq!(rt; m, Match::new(PatternID::must(1), m.span()));
+    are_equal!(rt; m.offset(10), Match::must(1, 23..28));
+    are_equal!(rt; m, Match::new(PatternID::must(1), m.span()));
 
     let span = Span { start: 3, end: 6 };
-    assert_eq!(rt; span, Span::from(3..6));
-    assert_eq!(rt; (span.range(), span.len()), (3..6, 3));
-    assert_eq!(rt; span.offset(10), Span::from(13..16));
+    are_equal!(rt; span, Span::from(3..6));
+    are_equal!(rt; (span.range(), span.len()), (3..6, 3));
+    are_equal!(rt; span.offset(10), Span::from(13..16));
     assert!(rt; span.contains(3) && span.contains(6) && !span.contains(7));
     let empty = Span { start: 3, end: 3 };
     assert!(rt; empty.is_empty() && !empty.contains(3));
@@ -25,18 +32,18 @@ fn matches_and_spans(rt: HostRuntime) {
 #[test]
 fn inputs_have_options(rt: HostRuntime) {
     let input = Input::new(b"foobar").range(3..6).anchored(Anchored::Yes);
-    assert_eq!(rt; input.haystack(), b"foobar".as_slice());
-    assert_eq!(rt; (input.start(), input.end()), (3, 6));
-    assert_eq!(rt; input.get_span(), Span { start: 3, end: 6 });
-    assert_eq!(rt; input.get_range(), 3..6);
-    assert_eq!(rt; input.get_anchored(), Anchored::Yes);
+    are_equal!(rt; input.haystack(), b"foobar".as_slice());
+    are_equal!(rt; (input.start(), input.end()), (3, 6));
+    are_equal!(rt; input.get_span(), Span { start: 3, end: 6 });
+    are_equal!(rt; input.get_range(), 3..6);
+    are_equal!(rt; input.get_anchored(), Anchored::Yes);
     assert!(rt; !input.get_earliest() && !input.is_done());
 
     let mut input = Input::new(b"foobar");
     input.set_span(Span { start: 1, end: 5 });
     input.set_start(3);
     input.set_end(6);
-    assert_eq!(rt; input.get_range(), 3..6);
+    are_equal!(rt; input.get_range(), 3..6);
     input.set_range(6..5);
     assert!(rt; input.is_done());
 
@@ -46,22 +53,22 @@ fn inputs_have_options(rt: HostRuntime) {
     assert!(rt; input.get_anchored().is_anchored() && input.get_earliest());
 
     let input = Input::of_text("\u{e9}b");
-    assert_eq!(rt; input.haystack(), b"\xc3\xa9b".as_slice());
-    assert_eq!(rt; input.get_range(), 0..3);
+    are_equal!(rt; input.haystack(), b"\xc3\xa9b".as_slice());
+    are_equal!(rt; input.get_range(), 0..3);
 }
 
 #[test]
 fn numbers_and_kinds(rt: HostRuntime) {
     let id = PatternID::must(3);
-    assert_eq!(rt; (id.as_usize(), id.as_u32(), id.as_u64()), (3, 3, 3));
-    assert_eq!(rt; id.one_more(), 4);
-    assert_eq!(rt; PatternID::new(3), Ok(id));
+    are_equal!(rt; (id.as_usize(), id.as_u32(), id.as_u64()), (3, 3, 3));
+    are_equal!(rt; id.one_more(), 4);
+    are_equal!(rt; PatternID::new(3), Ok(id));
     let attempted = PatternID::LIMIT;
-    assert_eq!(rt; PatternID::new(attempted), Err(TooLarge { attempted }));
+    are_equal!(rt; PatternID::new(attempted), Err(TooLarge { attempted }));
 
     assert!(rt; MatchKind::LeftmostFirst.is_leftmost());
     assert!(rt; !MatchKind::Standard.is_leftmost());
 
-    assert_eq!(rt; plain_byte(true, b'A'), b'a');
-    assert_eq!(rt; plain_byte(false, b'A'), b'A');
+    are_equal!(rt; plain_byte(true, b'A'), b'a');
+    are_equal!(rt; plain_byte(false, b'A'), b'A');
 }

@@ -3,12 +3,11 @@
 use super::same_by;
 use ac_search::AhoCorasickKind::DFA;
 use ac_search::MatchKind::{LeftmostFirst, LeftmostLongest, Standard};
-use ac_search::{AhoCorasick, AhoCorasickBuilder, FromRead, Input, IntoWrite, Match, Written};
+use ac_search::{AhoCorasick, AhoCorasickBuilder, FromRead, Input, IntoWrite, Written};
 use std::alloc::{AllocError, Global};
-use std::cell::Cell;
+use std::io;
 use std::io::{Read, Write};
 use std::test::Fail;
-use std::{io, ptr};
 
 /// How many bytes a stream gives: the room of its buffer many times over.
 const STREAM: usize = 1 << 20;

@@ -7,7 +7,7 @@ ghost use Rattle.ac_search.specs.Patterns.{bytes_of};
 mod program;
 
 use crate::laws::{closures_write_exchanged, lists_write_exchanged, pieces_join};
-use crate::tests::devices::{ALWAYS, Few, Pieces};
+use crate::tests::devices::{ALWAYS, Pieces};
 use crate::tests::same;
 use crate::{
     AhoCorasick, BuildError, Bytes, Match, MatchKind, Sink, Source, StreamError, Written, write_all,

@@ -12,9 +12,9 @@ fn starts_of_searches(rt: HostRuntime) -> Result<(), Fail> {
     let searcher = builder.build(alloc, &[b"b", b"abc"])?;
     let input = Input::new(b"abcd");
     let refused = searcher.try_find(input);
-    assert_eq!(rt; refused, Err(MatchError::InvalidInputUnanchored));
+    are_equal!(rt; refused, Err(MatchError::InvalidInputUnanchored));
     let found = searcher.try_find(input.anchored(Anchored::Yes))?;
-    assert_eq!(rt; found, Some(Match::must(1, 0..3)));
+    are_equal!(rt; found, Some(Match::must(1, 0..3)));
     Ok(())
 }
 
@@ -26,18 +26,18 @@ fn settings_of_engines(rt: HostRuntime) -> Result<(), Fail> {
     builder.dense_depth(0).byte_classes(false).prefilter(false);
     let copy = builder.clone();
     let searcher = copy.build(alloc, &[b"foo", b"bar"])?;
-    assert_eq!(rt; searcher.kind(), AhoCorasickKind::ContiguousNFA);
+    are_equal!(rt; searcher.kind(), AhoCorasickKind::ContiguousNFA);
     let found = searcher.try_find(Input::new(b"xx bar"))?;
-    assert_eq!(rt; found, Some(Match::must(1, 3..6))); // as with any engine
+    are_equal!(rt; found, Some(Match::must(1, 3..6))); // as with any engine
     Ok(())
 }
 
 #[test]
 fn choices(rt: HostRuntime) {
     let few = choose_kind(3, StartKind::Unanchored, true, true);
-    assert_eq!(rt; few, AhoCorasickKind::DFA);
+    are_equal!(rt; few, AhoCorasickKind::DFA);
     let both = choose_kind(3, StartKind::Both, true, true);
-    assert_eq!(rt; both, AhoCorasickKind::ContiguousNFA);
+    are_equal!(rt; both, AhoCorasickKind::ContiguousNFA);
     let large = choose_kind(101, StartKind::Unanchored, true, false);
-    assert_eq!(rt; large, AhoCorasickKind::NoncontiguousNFA);
+    are_equal!(rt; large, AhoCorasickKind::NoncontiguousNFA);
 }

@@ -11,7 +11,7 @@ fn searchers(rt: HostRuntime) -> Result<(), Fail> {
     let patterns: &[&[u8]] = &[b"foo", b"bar", b"baz"];
     let searcher = AhoCorasick::new(alloc, patterns)?;
     let found = searcher.find(Input::new(b"xxx bar xxx"));
-    assert_eq!(rt; found, Some(Match::must(1, 4..7)));
+    are_equal!(rt; found, Some(Match::must(1, 4..7)));
     Ok(())
 }
 
@@ -21,7 +21,7 @@ fn searchers_for_texts(rt: HostRuntime) -> Result<(), Fail> {
     let patterns = patterns_of(alloc, &["apple", "maple", "Snapple"])?;
     let searcher = AhoCorasick::new(alloc, &patterns)?;
     let found = searcher.find(Input::of_text("a maple"));
-    assert_eq!(rt; found, Some(Match::must(1, 2..7)));
+    are_equal!(rt; found, Some(Match::must(1, 2..7)));
     Ok(())
 }
 
@@ -29,12 +29,12 @@ fn searchers_for_texts(rt: HostRuntime) -> Result<(), Fail> {
 fn settings_and_sizes(rt: HostRuntime) -> Result<(), Fail> {
     let alloc = rt.alloc();
     let searcher = AhoCorasick::new(alloc, &[b"foo", b"bar", b"quux"])?;
-    assert_eq!(rt; searcher.kind(), AhoCorasickKind::DFA);
-    assert_eq!(rt; searcher.match_kind(), MatchKind::Standard);
-    assert_eq!(rt; searcher.start_kind(), StartKind::Unanchored);
-    assert_eq!(rt; searcher.patterns_len(), 3);
-    assert_eq!(rt; searcher.min_pattern_len(), 3);
-    assert_eq!(rt; searcher.max_pattern_len(), 4);
+    are_equal!(rt; searcher.kind(), AhoCorasickKind::DFA);
+    are_equal!(rt; searcher.match_kind(), MatchKind::Standard);
+    are_equal!(rt; searcher.start_kind(), StartKind::Unanchored);
+    are_equal!(rt; searcher.patterns_len(), 3);
+    are_equal!(rt; searcher.min_pattern_len(), 3);
+    are_equal!(rt; searcher.max_pattern_len(), 4);
     assert!(rt; searcher.memory_usage() > 0);
     Ok(())
 }
@@ -53,9 +53,9 @@ fn finds_that_may_be_refused(rt: HostRuntime) -> Result<(), Fail> {
     let alloc = rt.alloc();
     let searcher = AhoCorasick::new(alloc, &[b"bar"])?;
     let input = Input::new(b"foo bar");
-    assert_eq!(rt; searcher.try_find(input), Ok(Some(Match::must(0, 4..7))));
+    are_equal!(rt; searcher.try_find(input), Ok(Some(Match::must(0, 4..7))));
     let refused = searcher.try_find(input.anchored(Anchored::Yes));
-    assert_eq!(rt; refused, Err(MatchError::InvalidInputAnchored));
+    are_equal!(rt; refused, Err(MatchError::InvalidInputAnchored));
     Ok(())
 }
 
@@ -67,7 +67,7 @@ fn walks(rt: HostRuntime) -> Result<(), Fail> {
     for m in searcher.find_iter(Input::new(b"maple, apple")) {
         ends.push(m.end())?; // pattern 1 at 0..5, pattern 0 at 7..12
     }
-    assert_eq!(rt; ends.as_slice(), [5, 12].as_slice());
+    are_equal!(rt; ends.as_slice(), [5, 12].as_slice());
     Ok(())
 }
 
@@ -79,8 +79,8 @@ fn walks_that_may_be_refused(rt: HostRuntime) -> Result<(), Fail> {
     let searcher = builder.build(alloc, &[b"ab"])?;
     let input = Input::new(b"abxab");
     let refused = searcher.try_find_iter(input).err();
-    assert_eq!(rt; refused, Some(MatchError::InvalidInputUnanchored));
+    are_equal!(rt; refused, Some(MatchError::InvalidInputUnanchored));
     let mut matches = searcher.try_find_iter(input.anchored(Anchored::Yes))?;
-    assert_eq!(rt; matches.next(), Some(Match::must(0, 0..2)));
+    are_equal!(rt; matches.next(), Some(Match::must(0, 0..2)));
     Ok(())
 }

@@ -16,7 +16,7 @@ fn first(searcher: &AhoCorasick, haystack: &[u8]) -> Option<Match>
 #[test]
 fn the_first_match(rt: HostRuntime) -> Result<(), Fail> {
     let searcher = AhoCorasick::new(rt.alloc(), &[b"he", b"she"])?;
-    assert_eq!(rt; first(&searcher, b"ushers"), Some(Match::must(1, 1..4)));
+    are_equal!(rt; first(&searcher, b"ushers"), Some(Match::must(1, 1..4)));
     Ok(())
 }
 

@@ -13,9 +13,9 @@ fn kinds_pick_matches(rt: HostRuntime) -> Result<(), Fail> {
     builder.match_kind(MatchKind::LeftmostLongest);
     let longest = builder.build(alloc, patterns)?;
     let input = Input::new(b"abcd");
-    assert_eq!(rt; standard.try_find(input)?, Some(Match::must(0, 1..2)));
-    assert_eq!(rt; first.try_find(input)?, Some(Match::must(1, 0..3)));
-    assert_eq!(rt; longest.try_find(input)?, Some(Match::must(2, 0..4)));
+    are_equal!(rt; standard.try_find(input)?, Some(Match::must(0, 1..2)));
+    are_equal!(rt; first.try_find(input)?, Some(Match::must(1, 0..3)));
+    are_equal!(rt; longest.try_find(input)?, Some(Match::must(2, 0..4)));
     Ok(())
 }
 
@@ -24,9 +24,9 @@ fn spans_of_inputs_are_searched(rt: HostRuntime) -> Result<(), Fail> {
     let alloc = rt.alloc();
     let searcher = AhoCorasick::new(alloc, &[b"foo", b"bar"])?;
     let input = Input::new(b"foobar").range(3..6);
-    assert_eq!(rt; searcher.find(input), Some(Match::must(1, 3..6)));
+    are_equal!(rt; searcher.find(input), Some(Match::must(1, 3..6)));
     let input = Input::new(b"foobar").span(Span { start: 0, end: 3 });
-    assert_eq!(rt; searcher.find(input), Some(Match::must(0, 0..3)));
+    are_equal!(rt; searcher.find(input), Some(Match::must(0, 0..3)));
     Ok(())
 }
 
@@ -37,9 +37,9 @@ fn options_of_inputs_count(rt: HostRuntime) -> Result<(), Fail> {
     builder.start_kind(StartKind::Both);
     let searcher = builder.build(alloc, &[b"bar"])?;
     let input = Input::new(b"foo bar").anchored(Anchored::Yes);
-    assert_eq!(rt; searcher.try_find(input)?, None);
+    are_equal!(rt; searcher.try_find(input)?, None);
     let found = searcher.try_find(input.range(4..7))?;
-    assert_eq!(rt; found, Some(Match::must(0, 4..7)));
+    are_equal!(rt; found, Some(Match::must(0, 4..7)));
     Ok(())
 }
 
@@ -50,8 +50,8 @@ fn the_earliest_match_is_found(rt: HostRuntime) -> Result<(), Fail> {
     builder.match_kind(MatchKind::LeftmostLongest);
     let searcher = builder.build(alloc, &[b"b", b"abc", b"abcd"])?;
     let input = Input::new(b"abcd");
-    assert_eq!(rt; searcher.try_find(input)?, Some(Match::must(2, 0..4)));
+    are_equal!(rt; searcher.try_find(input)?, Some(Match::must(2, 0..4)));
     let earliest = searcher.try_find(input.earliest(true))?;
-    assert_eq!(rt; earliest, Some(Match::must(0, 1..2)));
+    are_equal!(rt; earliest, Some(Match::must(0, 1..2)));
     Ok(())
 }

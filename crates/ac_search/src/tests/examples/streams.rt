@@ -11,7 +11,7 @@ fn streams_are_searched(rt: HostRuntime) -> Result<(), Fail> {
     for found in searcher.stream_find_iter(alloc, Bytes::new(b"append the app"))? {
         ends.push(found?.end())?; // pattern 2 at 0..3, pattern 2 at 11..14
     }
-    assert_eq!(rt; ends.as_slice(), [3, 14].as_slice());
+    are_equal!(rt; ends.as_slice(), [3, 14].as_slice());
     Ok(())
 }
 
@@ -23,7 +23,7 @@ fn streams_that_may_be_refused_are_searched(rt: HostRuntime) -> Result<(), Fail>
     for found in searcher.try_stream_find_iter(alloc, Bytes::new(b"a secret password"))? {
         ends.push(found?.end())?;
     }
-    assert_eq!(rt; ends.as_slice(), [8, 17].as_slice());
+    are_equal!(rt; ends.as_slice(), [8, 17].as_slice());
     Ok(())
 }
 
@@ -32,8 +32,8 @@ fn stream_iterators(rt: HostRuntime) -> Result<(), Fail> {
     let alloc = rt.alloc();
     let searcher = AhoCorasick::new(alloc, &[b"append", b"app"])?;
     let mut matches = searcher.stream_find_iter(alloc, Bytes::new(b"append the app"))?;
-    assert_eq!(rt; (matches.buffer_len(), matches.kept_len()), (65_536, 0));
-    assert_eq!(rt; matches.next_read(), None); // nothing was read yet
+    are_equal!(rt; (matches.buffer_len(), matches.kept_len()), (65_536, 0));
+    are_equal!(rt; matches.next_read(), None); // nothing was read yet
     Ok(())
 }
 
@@ -42,10 +42,10 @@ fn stream_iterators_give_each_match(rt: HostRuntime) -> Result<(), Fail> {
     let alloc = rt.alloc();
     let searcher = AhoCorasick::new(alloc, &[b"append", b"app"])?;
     let mut matches = searcher.stream_find_iter(alloc, Bytes::new(b"append the app"))?;
-    assert_eq!(rt; matches.next().transpose()?, Some(Match::must(1, 0..3)));
-    assert_eq!(rt; matches.kept_len(), 11); // all that was read from the end of the match on
-    assert_eq!(rt; matches.next_read(), Some(Match::must(1, 11..14)));
-    assert_eq!(rt; matches.next().transpose()?, None);
+    are_equal!(rt; matches.next().transpose()?, Some(Match::must(1, 0..3)));
+    are_equal!(rt; matches.kept_len(), 11); // all that was read from the end of the match on
+    are_equal!(rt; matches.next_read(), Some(Match::must(1, 11..14)));
+    are_equal!(rt; matches.next().transpose()?, None);
     Ok(())
 }
 
@@ -55,11 +55,11 @@ fn stream_finders(rt: HostRuntime) -> Result<(), Fail> {
     let searcher = AhoCorasick::new(alloc, &[b"append", b"app"])?;
     let mut finder = searcher.try_stream_finder(alloc)?;
     let found = finder.next(&mut Bytes::new(b"append the ap")).transpose()?;
-    assert_eq!(rt; found, Some(Match::must(1, 0..3)));
-    assert_eq!(rt; finder.next_read(), None); // "ap" may begin a match
+    are_equal!(rt; found, Some(Match::must(1, 0..3)));
+    are_equal!(rt; finder.next_read(), None); // "ap" may begin a match
     let found = finder.next(&mut Bytes::new(b"p")).transpose()?;
-    assert_eq!(rt; found, Some(Match::must(1, 11..14)));
-    assert_eq!(rt; (finder.kept_len(), finder.buffer_len()), (0, 65_536));
+    are_equal!(rt; found, Some(Match::must(1, 11..14)));
+    are_equal!(rt; (finder.kept_len(), finder.buffer_len()), (0, 65_536));
     Ok(())
 }
 
@@ -73,6 +73,6 @@ fn streams_are_exchanged_by_closures(rt: HostRuntime) -> Result<(), Fail> {
         Ok(write_all(writer, b"!")?)
     };
     searcher.try_stream_replace_all_with(alloc, &mut reader, &mut writer, closure)?;
-    assert_eq!(rt; writer.bytes(), b"a fox!".as_slice());
+    are_equal!(rt; writer.bytes(), b"a fox!".as_slice());
     Ok(())
 }

@@ -1,7 +1,6 @@
 //! Readers that fail or pause, and modes that are refused before a read.
 use super::devices::{Drops, Pauses};
-use super::rows::Ending;
-use super::{INPUT, LINES, STREAMED, WORDS, WRITTEN};
+use super::{Ending, INPUT, LINES, STREAMED, WORDS, WRITTEN};
 use crate::fault::Fault;
 use crate::run::{Outcome, run, status};
 use crate::tests::same_by;

@@ -1,7 +1,6 @@
 //! Writers that fail or take little.
 use super::devices::{Drops, Narrow};
-use super::rows::Ending;
-use super::{INPUT, STREAMED, WRITTEN};
+use super::{Ending, INPUT, STREAMED, WRITTEN};
 use crate::fault::Fault;
 use crate::run::{Outcome, run};
 use crate::tests::same_by;

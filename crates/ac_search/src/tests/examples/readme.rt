@@ -10,14 +10,14 @@ fn a_find_and_a_walk(rt: HostRuntime) -> Result<(), Fail> {
     let text = "Nobody likes maple in their apple flavored Snapple.";
 
     let found = searcher.find(Input::of_text(text));
-    assert_eq!(rt; found, Some(Match::must(1, 13..18)));
+    are_equal!(rt; found, Some(Match::must(1, 13..18)));
 
     let mut ends = Vec::new(alloc);
     for m in searcher.find_iter(Input::of_text(text)) {
         ends.push((m.pattern().as_usize(), m.end()))?;
     }
     let wanted = [(1, 18), (0, 33), (2, 50)];
-    assert_eq!(rt; ends.as_slice(), wanted.as_slice());
+    are_equal!(rt; ends.as_slice(), wanted.as_slice());
     Ok(())
 }
 
@@ -31,8 +31,8 @@ fn match_kinds(rt: HostRuntime) -> Result<(), Fail> {
     let longest = builder.build(alloc, patterns)?;
 
     let input = Input::new(b"Samwise");
-    assert_eq!(rt; standard.try_find(input)?, Some(Match::must(0, 0..3)));
-    assert_eq!(rt; longest.try_find(input)?, Some(Match::must(1, 0..7)));
+    are_equal!(rt; standard.try_find(input)?, Some(Match::must(0, 0..3)));
+    are_equal!(rt; longest.try_find(input)?, Some(Match::must(1, 0..7)));
     Ok(())
 }
 
@@ -47,10 +47,10 @@ fn case_and_anchored_searches(rt: HostRuntime) -> Result<(), Fail> {
     let searcher = builder.build(alloc, patterns)?;
 
     let input = Input::new(b"foo BAR");
-    assert_eq!(rt; searcher.try_find(input)?, Some(Match::must(0, 4..7)));
+    are_equal!(rt; searcher.try_find(input)?, Some(Match::must(0, 4..7)));
     let anchored = input.anchored(Anchored::Yes);
-    assert_eq!(rt; searcher.try_find(anchored)?, None);
-    assert_eq!(rt;
+    are_equal!(rt; searcher.try_find(anchored)?, None);
+    are_equal!(rt;
         searcher.try_find(anchored.range(4..7))?,
         Some(Match::must(0, 4..7))
     );
@@ -72,7 +72,7 @@ fn overlapping_matches(rt: HostRuntime) -> Result<(), Fail> {
         Match::must(0, 0..6),
         Match::must(1, 0..9),
     ];
-    assert_eq!(rt; all.as_slice(), wanted.as_slice());
+    are_equal!(rt; all.as_slice(), wanted.as_slice());
     Ok(())
 }
 
@@ -84,13 +84,13 @@ fn replacement(rt: HostRuntime) -> Result<(), Fail> {
     let text = "The quick brown fox.";
 
     let sloth = searcher.try_replace_all(alloc, text, &["sloth", "grey", "slow"])?;
-    assert_eq!(rt; sloth.as_str(), "The slow grey sloth.");
+    are_equal!(rt; sloth.as_str(), "The slow grey sloth.");
 
     let mut shouted = String::new(alloc);
     searcher.try_replace_all_with(text, &mut shouted, |_, word, into| {
         into.push_str(word).is_ok() && into.push_str("!").is_ok()
     })?;
-    assert_eq!(rt; shouted.as_str(), "The quick! brown! fox!.");
+    are_equal!(rt; shouted.as_str(), "The quick! brown! fox!.");
     Ok(())
 }
 
@@ -103,6 +103,6 @@ fn streams(rt: HostRuntime) -> Result<(), Fail> {
     let mut reader = Bytes::new(b"a secret password");
     let mut writer = Written::new(alloc);
     searcher.try_stream_replace_all(alloc, &mut reader, &mut writer, &[b"***", b"***"])?;
-    assert_eq!(rt; writer.bytes(), b"a *** ***".as_slice());
+    are_equal!(rt; writer.bytes(), b"a *** ***".as_slice());
     Ok(())
 }
