@@ -9,7 +9,7 @@ use ac_util::primitives::PatternID;
 use ac_util::search::{Anchored, Input, Match, MatchKind, StartKind};
 use std::test::Fail;
 
-/// Does what `assert_eq!` does, by a call: its proof takes half the time.
+/// Does what `assert_eq!` does, by a call, which takes less time to prove.
 macro_rules! are_equal {
     ($rt:expr; $found:expr, $wanted:expr) => {
         crate::tests::same(&$rt, $found, $wanted)

@@ -3,7 +3,7 @@ use crate::patterns::plain_byte;
 use crate::primitives::{PatternID, TooLarge};
 use crate::search::{Anchored, Input, Match, MatchKind, Span};
 
-/// Does what `assert_eq!` does, by a call: its proof takes half the time.
+/// Does what `assert_eq!` does, by a call, which takes less time to prove.
 macro_rules! are_equal {
     ($rt:expr; $found:expr, $wanted:expr) => {
         crate::tests::same(&$rt, $found, $wanted)
