@@ -1,6 +1,6 @@
 -- A replacement by a closure, match by match: from what was done so far, the steps that are left lead on to those of
 -- the whole.
-use Rattle.std.proofs.Common.{◌≡◌, ◌∙◌, ℕ, Bool, true, false, List, [], ◌∷◌, ◌++◌, ap, arith, drop, length, inl, inr, refl, subst, sym, Option, None, Some, Result, Ok, Err, IsErrAnd, slice_range}
+use Rattle.std.proofs.Common.{◌≡◌, ◌∙◌, ℕ, Bool, true, false, List, [], ◌∷◌, ◌++◌, ap, arith, drop, length, inl, inr, refl, subst, sym, Option, None, Some, Result, Ok, Err, IsErrAnd, MatchResult, slice_range}
 use Rattle.std.specs.Borrow.{Bor, MutBor}
 use Rattle.std.specs.Fn.{Mut}
 use Rattle.std.proofs.lemmas.Grind.{common_steps}
@@ -109,3 +109,9 @@ pub stops-by_memory : (refused : Option MatchError) (steps : Option ReplaceError
     → steps (Some Memory) → MakesSteps refused steps unchanged result
 stops-by_memory refused steps unchanged (Ok done) memory none made = absurd memory
 stops-by_memory refused steps unchanged (Err e) memory none made = grind (arith, common_steps)
+
+-- an append was refused: these are the steps up to there
+pub steps-refused : {E : Type 0} (result : Result (Unit {0}) E) (why : E → Type 0) (all some : Type 0)
+    → IsErrAnd result why → some → MatchResult result (λ done. all) (λ e. some)
+steps-refused (Ok done) why all some refused steps = absurd refused
+steps-refused (Err e) why all some refused steps = steps

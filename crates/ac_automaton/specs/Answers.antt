@@ -77,12 +77,17 @@ abbrev pub BeginsStream : {X : Type 0} → Built → (X → Type 0) → Result X
 BeginsStream built Begun result =
     MatchResult result (λ x. (stream_refusal built ≡ None) × Begun x) (IsStreamRefused (stream_refusal built) ⊤)
 
--- where it isn't refused, such a replacement makes all of its steps, or those up to an append that was refused
+-- a replacement of these matches by a closure makes all of its steps, or those up to an append that was refused
+abbrev pub StepsOver : {F D E : Type 0} → Calling F D Bool → (D → List ℕ) → List ℕ → List Occurrence → F → D → D
+    → Result (Unit {0}) E → Type 0
+StepsOver closures holds haystack ms closure old new result =
+    MatchResult result (λ done. StepsLead closures holds haystack ms closure old None new)
+    (λ e. StepsLead closures holds haystack ms closure old (Some Memory) new)
+
+-- such a replacement of the matches that are chosen
 abbrev pub StepsBy : {F D E : Type 0} → Calling F D Bool → (D → List ℕ) → (Built → List ℕ → List Occurrence) → Built → List ℕ
     → F → D → D → Result (Unit {0}) E → Type 0
-StepsBy closures holds chosen built haystack closure old new result =
-    MatchResult result (λ done. StepsLead closures holds haystack (chosen built haystack) closure old None new)
-    (λ e. StepsLead closures holds haystack (chosen built haystack) closure old (Some Memory) new)
+StepsBy closures holds chosen built haystack = StepsOver closures holds haystack (chosen built haystack)
 
 -- the same in bytes
 module _ {F Z : Type 0} (closures : Calling F (Vec ℕ Z) Bool) where

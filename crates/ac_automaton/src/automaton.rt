@@ -46,6 +46,9 @@ pub use find::{Finder, find_core};
 pub use listing::MatchRest;
 pub use overlap::OverlappingState;
 pub use overlap_iter::FindOverlappingIter;
+pub use replace::{
+    Walk, replace_all, replace_all_bytes, replace_all_with, replace_all_with_bytes,
+};
 pub use scan::is_due;
 pub use stream::StreamFinder;
 pub use stream_iter::StreamFindIter;
@@ -363,7 +366,8 @@ pub trait Automaton {
         requires texts { length texts.now ≡ length (seen self.now).built.patterns }
         ensures { AnswersText (seen self.now).built haystack.now (bytes_of texts.now) result }
     {
-        replace::try_replace_all(self, alloc, haystack, texts)
+        let walk = FindIter::new(self, Input::of_text(haystack))?;
+        Ok(replace::replace_all(walk, alloc, haystack, texts)?)
     }
 
     /// Returns the haystack with each match of `try_find_iter` over it replaced by the text of its pattern. This ports
@@ -386,7 +390,8 @@ pub trait Automaton {
         requires texts { length texts.now ≡ length (seen self.now).built.patterns }
         ensures { AnswersBytes (seen self.now).built haystack.now (bytes_of texts.now) result }
     {
-        replace::try_replace_all_bytes(self, alloc, haystack, texts)
+        let walk = FindIter::new(self, Input::new(haystack))?;
+        Ok(replace::replace_all_bytes(walk, alloc, haystack, texts)?)
     }
 
     /// Appends the haystack to the destination, and calls the closure at each match of `try_find_iter` over it, except
@@ -414,7 +419,8 @@ pub trait Automaton {
         requires callable { F.IsAlwaysCallable exchange }
         ensures { ExchangesText F.FnMut (seen self.now).built haystack.now exchange destination.old destination.new result }
     {
-        replace::try_replace_all_with(self, haystack, destination, exchange)
+        let walk = FindIter::new(self, Input::of_text(haystack))?;
+        Ok(replace::replace_all_with(walk, haystack, destination, exchange)?)
     }
 
     /// Appends the haystack to the destination, and calls the closure at each match of `try_find_iter` over it, as
@@ -437,7 +443,8 @@ pub trait Automaton {
         requires callable { F.IsAlwaysCallable exchange }
         ensures { ExchangesBytes F.FnMut (seen self.now).built haystack.now exchange destination.old destination.new result }
     {
-        replace::try_replace_all_with_bytes(self, haystack, destination, exchange)
+        let walk = FindIter::new(self, Input::new(haystack))?;
+        Ok(replace::replace_all_with_bytes(walk, haystack, destination, exchange)?)
     }
 
     /// Returns an iterator over the matches of all bytes that a reader gives: those of the walk over these bytes,

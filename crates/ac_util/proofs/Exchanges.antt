@@ -2,17 +2,10 @@
 use Rattle.std.proofs.Common.{◌≡◌, ℕ, zero, suc, ◌+◌, ◌-◌, ◌<◌, ◌≤◌, Bool, true, false, List, [], ◌∷◌, length, refl, ap, arith, Option, Some, None, cond}
 use Rattle.std.specs.Str.{IsCharBoundary}
 use Rattle.std.proofs.lemmas.Grind.{common_steps}
+use Rattle.ac_util.specs.Replacement.{AreInOrder}
 use Rattle.ac_util.specs.Prelude.{whole_input, Built, continued, exchanged, from, is_whole, MatchKind, next_match, Occurrence, order_of, Search, search_in, walk, walk_after, whole_characters}
 use Rattle.ac_util.proofs.PlainReplaced.{next-numbered}
 use Rattle.ac_util.proofs.Walks.{next-in_span}
-
--- the first of the matches starts from a place on and has the number of one of so many patterns, and so do the others
--- from its end on, all within so many bytes
-abbrev pub AreInOrder : ℕ → ℕ → ℕ → List Occurrence → Type 0
-AreInOrder bytes patterns place [] = place ≤ bytes
-AreInOrder bytes patterns place (m ∷ ms) =
-    (place ≤ m.start) × (m.start ≤ m.end) × (m.end ≤ bytes) × (m.pattern < patterns)
-    × AreInOrder bytes patterns m.end ms
 
 -- and so from each earlier place on
 pub in_order-earlier : (bytes patterns place later : ℕ) (ms : List Occurrence) → place ≤ later

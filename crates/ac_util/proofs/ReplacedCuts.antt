@@ -8,7 +8,8 @@ use Rattle.ac_util.specs.Prelude.{Built, exchanged_from, IsSettledAt, is_leftmos
 use Rattle.ac_util.specs.Built.{has_empty}
 use Rattle.ac_util.specs.Replacement.{StartFrom}
 use Rattle.ac_util.specs.Stream.{IsSettledBy, settled}
-use Rattle.ac_util.proofs.Exchanges.{AreInOrder, exchanged-in_order}
+use Rattle.ac_util.specs.Replacement.{AreInOrder}
+use Rattle.ac_util.proofs.Exchanges.{exchanged-in_order}
 use Rattle.ac_util.proofs.GoesOn.{stream_result-begins}
 use Rattle.ac_util.proofs.Lying.{walk_result-lie}
 use Rattle.ac_util.proofs.Settled.{settled-stays}

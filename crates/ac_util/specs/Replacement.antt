@@ -1,5 +1,5 @@
 -- Replacement: the text with its matches exchanged, and the steps by which it is written.
-use Rattle.std.specs.Prelude.{ℕ, ◌≤◌, ⊤, Bool, ◌&&◌, ◌||◌, nat_le, nat_lt, List, [], ◌∷◌, ◌++◌, length, drop, filter, slice_range, slice_index, slice_index_or, ◌≡◌, ◌≢◌, ◌⊎◌, true, false, Option, None, Some, Result, MatchResult}
+use Rattle.std.specs.Prelude.{ℕ, ◌<◌, ◌≤◌, ⊤, Bool, ◌&&◌, ◌||◌, nat_le, nat_lt, List, [], ◌∷◌, ◌++◌, length, drop, filter, slice_range, slice_index, slice_index_or, ◌≡◌, ◌≢◌, ◌⊎◌, true, false, Option, None, Some, Result, MatchResult}
 use Rattle.ac_util.specs.Occurrence.{Occurrence}
 use Rattle.std.specs.Borrow.{Bor, MutBor}
 use Rattle.std.specs.Fn.{Called, Mut}
@@ -22,6 +22,12 @@ replaced_from haystack texts place ms =
 -- the whole haystack, with each match exchanged for the text of its pattern
 abbrev pub replaced : List ℕ → List (List ℕ) → List Occurrence → List ℕ
 replaced haystack texts ms = replaced_from haystack texts 0 ms
+
+-- the matches stand one after another in so many bytes from an offset on, and each has the number of one of so many texts
+abbrev pub AreInOrder : ℕ → ℕ → ℕ → List Occurrence → Type 0
+AreInOrder bytes texts place [] = place ≤ bytes
+AreInOrder bytes texts place (m ∷ ms) =
+    (place ≤ m.start) × (m.start ≤ m.end) × (m.end ≤ bytes) × (m.pattern < texts) × AreInOrder bytes texts m.end ms
 
 -- whether a character of the text begins at this offset, or the text ends there: `IsCharBoundary` as a test
 abbrev pub is_char_boundary : List ℕ → ℕ → Bool

@@ -1,28 +1,37 @@
-//! Matches exchanged for texts, by a list or by a closure, in bytes and in text.
-ghost use Rattle.std.specs.Prelude.{◌≡◌, length};
-ghost use Rattle.ac_automaton.specs.Answers.{AnswersBytes, AnswersText, ExchangesBytes, ExchangesText};
-ghost use Rattle.ac_automaton.specs.Util.{bytes_of, exchanged, is_whole, replaced};
+//! Matches exchanged for texts, by a list or by a closure, in bytes and in text, whichever engine finds them.
+ghost use Rattle.std.specs.Prelude.{◌≡◌, ℕ, List, IfOk, length, string_bytes};
+ghost use Rattle.std.specs.Iterator.{YieldsFirst};
+ghost use Rattle.ac_automaton.specs.Answers.{StepsOver};
+ghost use Rattle.ac_automaton.specs.Util.{AreInOrder, Occurrence, bytes_of, is_whole, replaced, whole_characters};
 
-use super::Automaton;
-use super::walk::FindIter;
-use ac_util::error::ReplaceError;
-use ac_util::search::{Input, Match};
-use std::alloc::Allocator;
+use ac_util::search::Match;
+use std::alloc::{AllocError, Allocator};
 
-/// Returns what `Automaton::try_replace_all_bytes` does.
-pub(super) fn try_replace_all_bytes<A: Automaton, Z: Allocator>(
-    automaton: &A,
+/// A walk whose matches can be replaced. Contracts see the matches still to come.
+pub trait Walk {
+    ghost left: { Self → List Occurrence };
+
+    /// Returns the next match, and moves on.
+    fn next_match(&mut self) -> Option<Match>
+        ensures { YieldsFirst left self.old result self.new };
+}
+
+/// Returns bytes with each match of a walk over them replaced by the text of its pattern.
+///
+/// # Errors
+/// `AllocError` where a request for memory is refused.
+pub fn replace_all_bytes<W: Walk + Drop, Z: Allocator>(
+    mut walk: W,
     alloc: Z,
     haystack: &[u8],
     texts: &[&[u8]],
-) -> Result<Vec<u8, Z>, ReplaceError>
-    requires texts { length texts.now ≡ length (A.seen automaton.now).built.patterns }
-    ensures { AnswersBytes (A.seen automaton.now).built haystack.now (bytes_of texts.now) result }
+) -> Result<Vec<u8, Z>, AllocError>
+    requires in_order { AreInOrder (length haystack.now) (length texts.now) 0 (W.left walk) }
+    ensures { IfOk result (λ whole. whole.items ≡ replaced haystack.now (bytes_of texts.now) (W.left walk)) }
 {
-    let matches = FindIter::new(automaton, Input::new(haystack))?;
     let mut replaced = Vec::with_capacity(alloc, haystack.len())?;
     let mut place = 0;
-    for found in matches {
+    while let Some(found) = walk.next_match() {
         replaced.extend_from_slice(&haystack[place..found.start()])?;
         replaced.extend_from_slice(texts[found.pattern().as_usize()])?;
         place = found.end();
@@ -31,20 +40,24 @@ pub(super) fn try_replace_all_bytes<A: Automaton, Z: Allocator>(
     Ok(replaced)
 }
 
-/// Returns what `Automaton::try_replace_all` does.
-pub(super) fn try_replace_all<A: Automaton, Z: Allocator>(
-    automaton: &A,
+/// Returns a text with each match of a walk over it replaced by the text of its pattern, but those that cut a
+/// character.
+///
+/// # Errors
+/// As `replace_all_bytes`.
+pub fn replace_all<W: Walk + Drop, Z: Allocator>(
+    mut walk: W,
     alloc: Z,
     text: &str,
     texts: &[&str],
-) -> Result<String<Z>, ReplaceError>
-    requires texts { length texts.now ≡ length (A.seen automaton.now).built.patterns }
-    ensures { AnswersText (A.seen automaton.now).built text.now (bytes_of texts.now) result }
+) -> Result<String<Z>, AllocError>
+    requires in_order { AreInOrder (length text.now) (length texts.now) 0 (W.left walk) }
+    ensures { IfOk result (λ whole. string_bytes whole
+        ≡ replaced text.now (bytes_of texts.now) (whole_characters text.now (W.left walk))) }
 {
-    let matches = FindIter::new(automaton, Input::of_text(text))?;
     let mut replaced = String::with_capacity(alloc, text.len())?;
     let mut place = 0;
-    for found in matches {
+    while let Some(found) = walk.next_match() {
         if cuts_no_character(text, &found) {
             replaced.push_str(&text[place..found.start()])?;
             replaced.push_str(texts[found.pattern().as_usize()])?;
@@ -55,22 +68,24 @@ pub(super) fn try_replace_all<A: Automaton, Z: Allocator>(
     Ok(replaced)
 }
 
-/// Does what `Automaton::try_replace_all_with_bytes` does.
-pub(super) fn try_replace_all_with_bytes<A, F>(
-    automaton: &A,
+/// Appends bytes to a destination, and calls the closure at each match of a walk over them while it asks to go on.
+///
+/// # Errors
+/// `AllocError` where a request of this call for memory is refused. The destination is as the steps before left it.
+pub fn replace_all_with_bytes<W: Walk + Drop, F>(
+    mut walk: W,
     haystack: &[u8],
     destination: &mut Vec<u8>,
     mut exchange: F,
-) -> Result<(), ReplaceError>
+) -> Result<(), AllocError>
 where
-    A: Automaton,
     F: FnMut(&Match, &[u8], &mut Vec<u8>) -> bool,
     requires callable { F.IsAlwaysCallable exchange }
-    ensures { ExchangesBytes F.FnMut (A.seen automaton.now).built haystack.now exchange destination.old destination.new result }
+    requires in_order { (texts : ℕ) × AreInOrder (length haystack.now) texts 0 (W.left walk) }
+    ensures { StepsOver F.FnMut (λ d. d.items) haystack.now (W.left walk) exchange destination.old destination.new result }
 {
-    let matches = FindIter::new(automaton, Input::new(haystack))?;
     let mut place = 0;
-    for found in matches {
+    while let Some(found) = walk.next_match() {
         destination.extend_from_slice(&haystack[place..found.start()])?;
         place = found.end();
         if !exchange(&found, &haystack[found.start()..place], destination) {
@@ -81,22 +96,26 @@ where
     Ok(())
 }
 
-/// Does what `Automaton::try_replace_all_with` does.
-pub(super) fn try_replace_all_with<A, F>(
-    automaton: &A,
+/// Appends a text to a destination, and calls the closure at each match of a walk over it that cuts no character, while
+/// it asks to go on.
+///
+/// # Errors
+/// As `replace_all_with_bytes`.
+pub fn replace_all_with<W: Walk + Drop, F>(
+    mut walk: W,
     text: &str,
     destination: &mut String,
     mut exchange: F,
-) -> Result<(), ReplaceError>
+) -> Result<(), AllocError>
 where
-    A: Automaton,
     F: FnMut(&Match, &str, &mut String) -> bool,
     requires callable { F.IsAlwaysCallable exchange }
-    ensures { ExchangesText F.FnMut (A.seen automaton.now).built text.now exchange destination.old destination.new result }
+    requires in_order { (texts : ℕ) × AreInOrder (length text.now) texts 0 (W.left walk) }
+    ensures { StepsOver F.FnMut string_bytes text.now (whole_characters text.now (W.left walk)) exchange
+        destination.old destination.new result }
 {
-    let matches = FindIter::new(automaton, Input::of_text(text))?;
     let mut place = 0;
-    for found in matches {
+    while let Some(found) = walk.next_match() {
         if cuts_no_character(text, &found) {
             destination.push_str(&text[place..found.start()])?;
             place = found.end();

@@ -8,6 +8,7 @@ ghost use Rattle.ac_automaton.specs.Iterators.{FindsBy, GoesOn, KeepsInput, MayF
 use super::Automaton;
 use super::find::Finder;
 use super::onward::Onward;
+use super::replace::Walk;
 use ac_util::error::MatchError;
 use ac_util::looks::{Looks, Tape, open};
 use ac_util::search::{Input, Match, Span};
@@ -203,6 +204,15 @@ impl<'a, 'h, A: Automaton> Iterator for FindIter<'a, 'h, A> {
 
     #[inline]
     fn next(&mut self) -> Option<Match> {
+        self.advance()
+    }
+}
+
+impl<'a, 'h, A: Automaton> Walk for FindIter<'a, 'h, A> {
+    ghost left = { λ s. s.rest };
+
+    #[inline]
+    fn next_match(&mut self) -> Option<Match> {
         self.advance()
     }
 }
