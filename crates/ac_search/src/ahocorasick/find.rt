@@ -10,7 +10,7 @@ ghost use Rattle.ac_search.specs.Searchers.{BeginsWalk, initial_walk_by};
 
 use super::engine::{Engine, EngineFindIter, by_engine};
 use super::{AhoCorasick, check_start};
-use ac_automaton::automaton::Automaton;
+use ac_automaton::automaton::{Automaton, Walk};
 use ac_util::error::MatchError;
 use ac_util::search::{Input, Match};
 use std::alloc::{Allocator, Global};
@@ -178,6 +178,15 @@ impl<'a, 'h, A: Allocator> Iterator for FindIter<'a, 'h, A> {
 
     #[inline]
     fn next(&mut self) -> Option<Match> {
+        self.matches.next()
+    }
+}
+
+impl<'a, 'h, A: Allocator> Walk for FindIter<'a, 'h, A> {
+    ghost left = { λ s. s.rest };
+
+    #[inline]
+    fn next_match(&mut self) -> Option<Match> {
         self.matches.next()
     }
 }

@@ -3,11 +3,12 @@ ghost use Rattle.std.specs.Prelude.{◌≡◌, Err, IfErr, IfOk, MatchResult, No
 ghost use Rattle.ac_automaton.specs.Util.{bytes_of, replace_refusal};
 ghost use Rattle.ac_automaton.specs.Answers.{AnswersBytes, AnswersText, AreReplacedBytes, ExchangesBytes, ExchangesText, IsReplacedText, StepsInBytes, StepsInText};
 
-use super::engine::{Engine, by_engine};
-use super::{AhoCorasick, check_start};
-use ac_automaton::automaton::Automaton;
+use super::AhoCorasick;
+use ac_automaton::automaton::{
+    replace_all, replace_all_bytes, replace_all_with, replace_all_with_bytes,
+};
 use ac_util::error::ReplaceError;
-use ac_util::search::{Anchored, Match};
+use ac_util::search::{Input, Match};
 use std::alloc::{AllocError, Allocator};
 
 impl<A: Allocator> AhoCorasick<A> {
@@ -162,8 +163,8 @@ impl<A: Allocator> AhoCorasick<A> {
         requires texts { length texts.now ≡ length self.now.built.patterns }
         ensures { AnswersText self.now.built haystack.now (bytes_of texts.now) result }
     {
-        check_start(self.start_kind, Anchored::No)?;
-        by_engine!(Engine, &self.engine, engine => engine.as_ref().try_replace_all(alloc, haystack, texts))
+        let walk = self.try_find_iter(Input::of_text(haystack))?;
+        Ok(replace_all(walk, alloc, haystack, texts)?)
     }
 
     /// Returns what `replace_all_bytes` returns, or an error where the searcher doesn't support unanchored searches.
@@ -184,8 +185,8 @@ impl<A: Allocator> AhoCorasick<A> {
         requires texts { length texts.now ≡ length self.now.built.patterns }
         ensures { AnswersBytes self.now.built haystack.now (bytes_of texts.now) result }
     {
-        check_start(self.start_kind, Anchored::No)?;
-        by_engine!(Engine, &self.engine, engine => engine.as_ref().try_replace_all_bytes(alloc, haystack, texts))
+        let walk = self.try_find_iter(Input::new(haystack))?;
+        Ok(replace_all_bytes(walk, alloc, haystack, texts)?)
     }
 
     /// Does what `replace_all_with` does, or returns an error where the searcher doesn't support unanchored searches.
@@ -216,8 +217,8 @@ impl<A: Allocator> AhoCorasick<A> {
         requires callable { F.IsAlwaysCallable exchange }
         ensures { ExchangesText F.FnMut self.now.built haystack.now exchange destination.old destination.new result }
     {
-        check_start(self.start_kind, Anchored::No)?;
-        by_engine!(Engine, &self.engine, engine => engine.as_ref().try_replace_all_with(haystack, destination, exchange))
+        let walk = self.try_find_iter(Input::of_text(haystack))?;
+        Ok(replace_all_with(walk, haystack, destination, exchange)?)
     }
 
     /// Does what `replace_all_with_bytes` does, or returns an error where the searcher doesn't support unanchored
@@ -247,8 +248,8 @@ impl<A: Allocator> AhoCorasick<A> {
         requires callable { F.IsAlwaysCallable exchange }
         ensures { ExchangesBytes F.FnMut self.now.built haystack.now exchange destination.old destination.new result }
     {
-        check_start(self.start_kind, Anchored::No)?;
-        by_engine!(Engine, &self.engine, engine => engine.as_ref().try_replace_all_with_bytes(haystack, destination, exchange))
+        let walk = self.try_find_iter(Input::new(haystack))?;
+        Ok(replace_all_with_bytes(walk, haystack, destination, exchange)?)
     }
 }
 
