@@ -23,6 +23,7 @@ mod replace;
 mod rows;
 mod stream;
 mod stream_rows;
+mod util;
 mod walks;
 
 /// A pattern number, a start and an end.

@@ -123,6 +123,3 @@ fn mark(marks: &mut [bool; 256], pattern: &[u8], ignores_case: bool)
         marks[plain_byte(ignores_case, byte) as usize] = true;
     }
 }
-
-#[cfg(test)]
-mod tests;

@@ -97,6 +97,3 @@ pub fn write_all<W: Sink>(writer: &mut W, bytes: &[u8]) -> Result<(), WriteError
     }
     Ok(())
 }
-
-#[cfg(test)]
-mod tests;

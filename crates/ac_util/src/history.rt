@@ -38,6 +38,3 @@ impl History {
         History { seal: () }
     }
 }
-
-#[cfg(test)]
-mod tests;

@@ -127,6 +127,3 @@ pub fn check_limits<P: AsSlice<u8>>(patterns: &[P]) -> Result<(), BuildError>
     }
     Ok(())
 }
-
-#[cfg(test)]
-mod tests;

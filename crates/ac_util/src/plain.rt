@@ -14,8 +14,6 @@ use std::marker::Model;
 
 mod exchange;
 mod list;
-#[cfg(test)]
-mod tests;
 mod walks;
 
 pub use exchange::{replace_walk, replaced};

@@ -292,6 +292,3 @@ fn first_marks<A: Allocator>(patterns: &Patterns<A>, ignores_case: bool) -> [boo
     }
     marks
 }
-
-#[cfg(test)]
-mod tests;

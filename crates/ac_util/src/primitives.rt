@@ -168,6 +168,3 @@ impl<K> SmallIndex<K> {
         (self.number + 1) as usize
     }
 }
-
-#[cfg(test)]
-mod tests;

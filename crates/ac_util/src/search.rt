@@ -289,6 +289,3 @@ impl Anchored {
         matches!(self, Anchored::Yes)
     }
 }
-
-#[cfg(test)]
-mod tests;

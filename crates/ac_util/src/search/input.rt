@@ -302,6 +302,3 @@ impl<'h> Input<'h> {
         self.start > self.end
     }
 }
-
-#[cfg(test)]
-mod tests;

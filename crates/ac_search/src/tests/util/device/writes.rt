@@ -1,7 +1,7 @@
 //! Of writers: what they take of a piece, and what they hold after a failure.
 use super::{BROKEN, Outcome, write};
-use crate::device::{IntoWrite, Written};
 use crate::tests::same;
+use ac_util::device::{IntoWrite, Written};
 use std::alloc::{AllocError, Global};
 use std::io;
 use std::io::{ErrorKind, Write};

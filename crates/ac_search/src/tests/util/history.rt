@@ -1,5 +1,6 @@
-use super::History;
+//! The bytes that a contract sees.
 use crate::tests::same;
+use ac_util::history::History;
 use std::test::Fail;
 
 #[test]

@@ -1,7 +1,11 @@
-use super::*;
-use crate::looks::open;
-use crate::search::Input;
+//! Prefilters, by rows.
 use crate::tests::same;
+use ac_util::error::BuildError;
+use ac_util::looks::open;
+use ac_util::patterns::Patterns;
+use ac_util::prefilter::{Candidate, Prefilter};
+use ac_util::search::{Input, Match, Span};
+use std::alloc::Global;
 use std::test::Fail;
 
 /// Returns the prefilter of a search for these patterns.

@@ -1,6 +1,6 @@
-use super::super::{Anchored, Span};
-use super::Input;
+//! Inputs and their options.
 use crate::tests::same;
+use ac_util::search::{Anchored, Input, Span};
 use std::ops::Range;
 
 /// Returns the options of an input and its span.

@@ -1,10 +1,11 @@
+//! The plain search, by rows.
 ghost use Rattle.std.specs.Prelude.{◌≤◌, length};
 
-use super::{Query, find, listing, replace_walk, walk};
-use crate::search::Anchored::{No, Yes};
-use crate::search::MatchKind::{LeftmostFirst, LeftmostLongest, Standard};
-use crate::search::{Anchored, Match, MatchKind, Span};
 use crate::tests::same;
+use ac_util::plain::{Query, find, listing, replace_walk, walk};
+use ac_util::search::Anchored::{No, Yes};
+use ac_util::search::MatchKind::{LeftmostFirst, LeftmostLongest, Standard};
+use ac_util::search::{Anchored, Match, MatchKind, Span};
 use std::alloc::{AllocError, Global};
 use std::test::Fail;
 

@@ -1,7 +1,8 @@
-use super::ByteClasses;
-use crate::error::BuildError;
-use crate::patterns::Patterns;
+//! Classes of bytes.
 use crate::tests::same;
+use ac_util::alphabet::ByteClasses;
+use ac_util::error::BuildError;
+use ac_util::patterns::Patterns;
 use std::alloc::Global;
 use std::test::Fail;
 

@@ -1,5 +1,6 @@
-use super::{PatternID, Plain, SmallIndex, StateID, TooLarge};
+//! Numbers of patterns and states.
 use crate::tests::same;
+use ac_util::primitives::{PatternID, Plain, SmallIndex, StateID, TooLarge};
 use std::cmp::Ordering;
 use std::cmp::Ordering::{Equal, Greater, Less};
 use std::hash::{DefaultHasher, Hash, Hasher};

@@ -2,9 +2,9 @@
 ghost use Rattle.std.specs.Prelude.{false};
 
 use super::{BROKEN, Outcome, read};
-use crate::device::{Bytes, FromRead, Source};
-use crate::tally::Tally;
 use crate::tests::same;
+use ac_util::device::{Bytes, FromRead, Source};
+use ac_util::tally::Tally;
 use std::io;
 use std::io::{ErrorKind, Read};
 use std::marker::Model;

@@ -1,7 +1,8 @@
-use super::Patterns;
-use super::pieces::Pieces;
-use crate::error::BuildError;
+//! Lists of patterns, as they are stored.
 use crate::tests::same;
+use ac_util::error::BuildError;
+use ac_util::patterns::Patterns;
+use ac_util::patterns::pieces::Pieces;
 use std::alloc::{AllocError, Allocator};
 use std::test::Fail;
 

@@ -1,10 +1,11 @@
+//! Readers and writers.
 ghost use Rattle.std.specs.Prelude.{◌≤◌, IfOk};
 
 mod reads;
 mod writes;
 
-use super::{Bytes, FromRead, IntoWrite, Sink, Source, Written};
 use crate::tests::same;
+use ac_util::device::{Bytes, FromRead, IntoWrite, Sink, Source, Written};
 use reads::Drops;
 use std::alloc::Global;
 use std::io;

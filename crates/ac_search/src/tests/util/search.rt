@@ -1,6 +1,7 @@
-use super::{Anchored, Input, Match, MatchKind, Span, StartKind};
-use crate::primitives::PatternID;
+//! Matches, spans and settings.
 use crate::tests::same;
+use ac_util::primitives::PatternID;
+use ac_util::search::{Anchored, Input, Match, MatchKind, Span, StartKind};
 use std::alloc::Global;
 use std::fmt::Debug;
 use std::hash::{DefaultHasher, Hash, Hasher};
