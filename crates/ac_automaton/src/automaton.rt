@@ -46,9 +46,7 @@ pub use find::{Finder, find_core};
 pub use listing::MatchRest;
 pub use overlap::OverlappingState;
 pub use overlap_iter::FindOverlappingIter;
-pub use replace::{
-    Walk, replace_all, replace_all_bytes, replace_all_with, replace_all_with_bytes,
-};
+pub use replace::{Walk, replace_all, replace_all_bytes, replace_all_with, replace_all_with_bytes};
 pub use scan::is_due;
 pub use stream::StreamFinder;
 pub use stream_iter::StreamFindIter;

@@ -7,7 +7,8 @@ ghost use Rattle.ac_automaton.specs.Util.{AreInOrder, Occurrence, bytes_of, is_w
 use ac_util::search::Match;
 use std::alloc::{AllocError, Allocator};
 
-/// A walk whose matches can be replaced. Contracts see the matches still to come.
+/// A walk whose matches can be replaced: `FindIter` of an engine, or of `AhoCorasick`. Contracts see the matches still to
+/// come.
 pub trait Walk {
     ghost left: { Self → List Occurrence };
 
@@ -16,10 +17,13 @@ pub trait Walk {
         ensures { YieldsFirst left self.old result self.new };
 }
 
-/// Returns bytes with each match of a walk over them replaced by the text of its pattern.
+/// Returns bytes with each match of a walk over them replaced by the text of its pattern. The matches have to lie in the
+/// bytes one after another, and each has to have a text.
 ///
 /// # Errors
 /// `AllocError` where a request for memory is refused.
+///
+/// `AhoCorasick::try_replace_all_bytes` does this with its own walk: see the example of `AhoCorasick::replace_all_bytes`.
 pub fn replace_all_bytes<W: Walk + Drop, Z: Allocator>(
     mut walk: W,
     alloc: Z,
@@ -41,10 +45,12 @@ pub fn replace_all_bytes<W: Walk + Drop, Z: Allocator>(
 }
 
 /// Returns a text with each match of a walk over it replaced by the text of its pattern, but those that cut a
-/// character.
+/// character. The matches have to lie in the text one after another, and each has to have a text.
 ///
 /// # Errors
 /// As `replace_all_bytes`.
+///
+/// See the example of `AhoCorasick::replace_all`, which does this with its own walk.
 pub fn replace_all<W: Walk + Drop, Z: Allocator>(
     mut walk: W,
     alloc: Z,
@@ -68,10 +74,13 @@ pub fn replace_all<W: Walk + Drop, Z: Allocator>(
     Ok(replaced)
 }
 
-/// Appends bytes to a destination, and calls the closure at each match of a walk over them while it asks to go on.
+/// Appends bytes to a destination, and calls the closure at each match of a walk over them while it asks to go on. The
+/// matches have to lie in the bytes one after another.
 ///
 /// # Errors
 /// `AllocError` where a request of this call for memory is refused. The destination is as the steps before left it.
+///
+/// See the example of `AhoCorasick::replace_all_with_bytes`, which does this with its own walk.
 pub fn replace_all_with_bytes<W: Walk + Drop, F>(
     mut walk: W,
     haystack: &[u8],
@@ -97,10 +106,12 @@ where
 }
 
 /// Appends a text to a destination, and calls the closure at each match of a walk over it that cuts no character, while
-/// it asks to go on.
+/// it asks to go on. The matches have to lie in the text one after another.
 ///
 /// # Errors
 /// As `replace_all_with_bytes`.
+///
+/// See the example of `AhoCorasick::replace_all_with`, which does this with its own walk.
 pub fn replace_all_with<W: Walk + Drop, F>(
     mut walk: W,
     text: &str,

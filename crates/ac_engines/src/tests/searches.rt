@@ -1,4 +1,5 @@
-//! What the engines find by themselves.
+//! What the engines answer by themselves.
+use super::states::compare_states;
 use super::{PRONOUNS, Triple, same, same_by, triple_of, triples_of};
 use crate::dfa;
 use crate::nfa::contiguous;
@@ -180,54 +181,149 @@ pub(crate) fn dfa_over(
     builder.build_from_noncontiguous(alloc, trie)
 }
 
-/// Compares what an engine's clone answers with what a row says.
-fn compare_walk<E: Automaton + Clone + Debug + Drop>(
+/// What is asked of an engine, and what it has to answer.
+#[derive(Clone, Copy)]
+enum Case {
+    /// The walk of a clone over a haystack.
+    Walk(&'static [u8], &'static [Triple]),
+    /// The listing of a haystack.
+    Listing(&'static [u8], &'static [Triple]),
+    /// What an engine over the pronouns says of them, and what its cores find.
+    Pronouns,
+    /// The states of such an engine.
+    States,
+    /// Why a stream is refused.
+    Refusal(MatchError),
+}
+
+/// Compares what an engine answers with what it has to.
+fn compare<E: Automaton + Clone + Debug + Drop>(
     rt: &impl Abort,
     alloc: Global,
-    engine: E,
-    row: &Row,
+    engine: &E,
+    (kind, _, anchored): Search,
+    case: Case,
 ) -> Result<(), Fail> {
-    let &((kind, _, anchored), patterns, haystack, walk) = row;
-    let copy = engine.clone()?;
-    let input = Input::new(haystack).anchored(anchored);
-    let walked = triples_of(alloc, copy.try_find_iter(input)?)?;
-    same_by(rt, walked.as_slice(), walk, &copy);
-    let found = copy.try_find(input)?.as_ref().map(triple_of);
-    same_by(rt, found, walk.first().copied(), &copy);
-    let own = (copy.match_kind(), copy.patterns_len());
-    same_by(rt, own, (kind, patterns.len()), &copy);
+    same_by(rt, engine.match_kind(), kind, engine);
+    match case {
+        Case::Walk(haystack, walk) => {
+            let input = Input::new(haystack).anchored(anchored);
+            compare_walk(rt, alloc, &engine.clone()?, input, walk)
+        }
+        Case::Listing(haystack, listing) => compare_listing(rt, alloc, engine, haystack, listing),
+        Case::Pronouns => Ok(compare_pronouns(rt, engine)?),
+        Case::States => Ok(compare_states(rt, engine)?),
+        Case::Refusal(refusal) => compare_refusal(alloc, engine, refusal),
+    }
+}
+
+/// Compares the walk of an input, and its first match, with what they have to be.
+fn compare_walk<E: Automaton + Debug>(
+    rt: &impl Abort,
+    alloc: Global,
+    engine: &E,
+    input: Input<'_>,
+    walk: &[Triple],
+) -> Result<(), Fail> {
+    let walked = triples_of(alloc, engine.try_find_iter(input)?)?;
+    same_by(rt, walked.as_slice(), walk, engine);
+    let found = engine.try_find(input)?.as_ref().map(triple_of);
+    same_by(rt, found, walk.first().copied(), engine);
     Ok(())
 }
 
-/// Compares what a DFA answers with what a row says, with both starts and with one.
+/// Compares the listing of a haystack with what it has to be.
+fn compare_listing<E: Automaton + Debug>(
+    rt: &impl Abort,
+    alloc: Global,
+    engine: &E,
+    haystack: &[u8],
+    listing: &[Triple],
+) -> Result<(), Fail> {
+    let items = engine.try_find_overlapping_iter(Input::new(haystack))?;
+    let listed = triples_of(alloc, items)?;
+    same_by(rt, listed.as_slice(), listing, engine);
+    Ok(())
+}
+
+/// Compares what an automaton over the pronouns says of them, and what its cores find.
+fn compare_pronouns<A: Automaton>(rt: &impl Abort, automaton: &A) -> Result<(), MatchError> {
+    let lengths = (automaton.min_pattern_len(), automaton.max_pattern_len());
+    same(rt, lengths, (2, 4));
+    assert!(rt; automaton.patterns_len() == 4 && automaton.memory_usage() > 0);
+    same(rt, automaton.pattern_len(PatternID::must(3)), 4);
+    compare_cores(rt, automaton)
+}
+
+/// Compares what the core finds in `ushers`, and a finder from its third byte on.
+fn compare_cores<A: Automaton>(rt: &impl Abort, automaton: &A) -> Result<(), MatchError> {
+    let input = Input::new(b"ushers");
+    let mut finder = Finder::new(automaton, No, false)?;
+    let (mut tape, mut looks) = open(&input);
+    let found = find_core(automaton, No, false, 0, 6, &mut tape, &mut looks);
+    same(rt, found.as_ref().map(triple_of), Some((1, 1, 4)));
+    let (mut tape, mut looks) = open(&input);
+    let found = finder.find(Span { start: 2, end: 6 }, &mut tape, &mut looks);
+    same(rt, found.as_ref().map(triple_of), Some((0, 2, 4)));
+    Ok(())
+}
+
+/// A stream that is refused.
+const STREAM: &[u8] = b"abc";
+
+/// Compares why an automaton refuses a stream, and that the reader which it was lent is as it was.
+fn compare_refusal<A: Automaton>(
+    alloc: Global,
+    automaton: &A,
+    refusal: MatchError,
+) -> Result<(), Fail> {
+    let mut left = STREAM;
+    let matches = automaton.try_stream_find_iter(alloc, FromRead::new(&mut left));
+    match matches.err() {
+        Some(StreamError::Match(e)) if e == refusal && left == STREAM => Ok(()),
+        answer => Err(Fail::new(format_args!("{answer:?}, {left:?}"))),
+    }
+}
+
+/// Compares the answers of DFAs with these starts.
 fn compare_dfas(
     rt: &impl Abort,
     alloc: Global,
     trie: &noncontiguous::NFA,
-    row: &Row,
+    search: Search,
+    starts: [StartKind; 2],
+    case: Case,
 ) -> Result<(), Fail> {
-    let start_kind = match row.0.2 {
-        No => StartKind::Unanchored,
-        Yes => StartKind::Anchored,
-    };
-    for start_kind in [StartKind::Both, start_kind] {
-        compare_walk(rt, alloc, dfa_over(alloc, trie, start_kind)?, row)?;
+    for start_kind in starts {
+        compare(rt, alloc, &dfa_over(alloc, trie, start_kind)?, search, case)?;
     }
     Ok(())
 }
 
-/// Compares what each engine answers with what a row says.
-fn compare_engines(rt: &impl Abort, alloc: Global, row: &Row) -> Result<(), Fail> {
-    let trie = trie_of(alloc, row.0, row.1)?;
-    compare_dfas(rt, alloc, &trie, row)?;
-    compare_walk(rt, alloc, contiguous_over(alloc, &trie)?, row)?;
-    compare_walk(rt, alloc, trie, row)
+/// Compares the answers of each engine over patterns.
+fn compare_engines(
+    rt: &impl Abort,
+    alloc: Global,
+    search: Search,
+    patterns: &[&[u8]],
+    case: Case,
+) -> Result<(), Fail> {
+    let trie = trie_of(alloc, search, patterns)?;
+    let one = match (case, search.2) {
+        (Case::States, _) => StartKind::Both,
+        (_, No) => StartKind::Unanchored,
+        (_, Yes) => StartKind::Anchored,
+    };
+    compare_dfas(rt, alloc, &trie, search, [StartKind::Both, one], case)?;
+    compare(rt, alloc, &contiguous_over(alloc, &trie)?, search, case)?;
+    compare(rt, alloc, &trie, search, case)
 }
 
 #[test]
 fn engines_walk(rt: HostRuntime) -> Result<(), Fail> {
-    for row in WALKS {
-        compare_engines(&rt, rt.alloc(), row)?;
+    for &(search, patterns, haystack, walk) in WALKS {
+        let case = Case::Walk(haystack, walk);
+        compare_engines(&rt, rt.alloc(), search, patterns, case)?;
     }
     Ok(())
 }
@@ -257,63 +353,41 @@ const LISTINGS: &[Listing] = &[
     ),
 ];
 
-/// Compares what an engine lists with what a row says.
-fn compare_listing<E: Automaton + Debug + Drop>(
-    rt: &impl Abort,
-    alloc: Global,
-    engine: E,
-    row: &Listing,
-) -> Result<(), Fail> {
-    let items = engine.try_find_overlapping_iter(Input::new(row.1))?;
-    let listed = triples_of(alloc, items)?;
-    same_by(rt, listed.as_slice(), row.2, &engine);
-    Ok(())
-}
-
-/// Compares what each engine lists with what a row says.
-fn compare_listings(rt: &impl Abort, alloc: Global, row: &Listing) -> Result<(), Fail> {
-    let trie = trie_of(alloc, STANDARD, row.0)?;
-    compare_listing(rt, alloc, contiguous_over(alloc, &trie)?, row)?;
-    compare_listing(rt, alloc, dfa_over(alloc, &trie, StartKind::Both)?, row)?;
-    compare_listing(rt, alloc, trie, row)
-}
-
 #[test]
 fn engines_list(rt: HostRuntime) -> Result<(), Fail> {
-    for row in LISTINGS {
-        compare_listings(&rt, rt.alloc(), row)?;
+    for &(patterns, haystack, listing) in LISTINGS {
+        let case = Case::Listing(haystack, listing);
+        compare_engines(&rt, rt.alloc(), STANDARD, patterns, case)?;
     }
     Ok(())
 }
 
-/// Compares what the core finds in `ushers`, and a finder from its third byte on.
-fn compare_cores<A: Automaton>(rt: &impl Abort, automaton: &A) -> Result<(), MatchError> {
-    let input = Input::new(b"ushers");
-    let mut finder = Finder::new(automaton, No, false)?;
-    let (mut tape, mut looks) = open(&input);
-    let found = find_core(automaton, No, false, 0, 6, &mut tape, &mut looks);
-    same(rt, found.as_ref().map(triple_of), Some((1, 1, 4)));
-    let (mut tape, mut looks) = open(&input);
-    let found = finder.find(Span { start: 2, end: 6 }, &mut tape, &mut looks);
-    same(rt, found.as_ref().map(triple_of), Some((0, 2, 4)));
+#[test]
+fn engines_know_their_patterns_and_states(rt: HostRuntime) -> Result<(), Fail> {
+    for case in [Case::Pronouns, Case::States] {
+        compare_engines(&rt, rt.alloc(), STANDARD, &PRONOUNS, case)?;
+    }
     Ok(())
-}
-
-/// Compares what an automaton over the pronouns says of them, and what its cores find.
-fn compare_pronouns<A: Automaton + Drop>(rt: &impl Abort, automaton: A) -> Result<(), MatchError> {
-    let lengths = (automaton.min_pattern_len(), automaton.max_pattern_len());
-    same(rt, lengths, (2, 4));
-    assert!(rt; automaton.patterns_len() == 4 && automaton.memory_usage() > 0);
-    same(rt, automaton.pattern_len(PatternID::must(3)), 4);
-    compare_cores(rt, &automaton)
 }
 
 #[test]
-fn engines_know_their_patterns(rt: HostRuntime) -> Result<(), Fail> {
-    compare_pronouns(&rt, noncontiguous::NFA::new(rt.alloc(), &PRONOUNS)?)?;
-    compare_pronouns(&rt, contiguous::NFA::new(rt.alloc(), &PRONOUNS)?)?;
-    compare_pronouns(&rt, dfa::DFA::new(rt.alloc(), &PRONOUNS)?)?;
-    Ok(())
+fn a_refused_stream_is_not_read(rt: HostRuntime) -> Result<(), Fail> {
+    let case = Case::Refusal(MatchError::UnsupportedEmpty);
+    compare_engines(&rt, rt.alloc(), STANDARD, &[b"a", b""], case)
+}
+
+#[test]
+fn a_stream_that_lacks_its_start_is_not_read(rt: HostRuntime) -> Result<(), Fail> {
+    let trie = noncontiguous::NFA::new(rt.alloc(), &[b"a"])?;
+    let case = Case::Refusal(MatchError::InvalidInputUnanchored);
+    compare_dfas(
+        &rt,
+        rt.alloc(),
+        &trie,
+        STANDARD,
+        [StartKind::Anchored; 2],
+        case,
+    )
 }
 
 /// A DFA without the start that is asked for refuses, even where the span starts past its end.
@@ -336,52 +410,11 @@ fn compare_shown<A: Debug>(alloc: Global, automaton: &A, wanted: &str) -> Result
 }
 
 #[test]
-fn nfas_are_shown(rt: HostRuntime) -> Result<(), Fail> {
-    let alloc = rt.alloc();
-    let trie = noncontiguous::NFA::new(alloc, &[b"a", b"b"])?;
+fn engines_are_shown(rt: HostRuntime) -> Result<(), Fail> {
+    let (alloc, patterns): (_, [&[u8]; 2]) = (rt.alloc(), [b"a", b"b"]);
     let wanted = "NFA { match_kind: Standard, patterns: 2 }";
-    compare_shown(alloc, &trie, wanted)?;
-    compare_shown(alloc, &contiguous_over(alloc, &trie)?, wanted)
-}
-
-#[test]
-fn a_dfa_is_shown(rt: HostRuntime) -> Result<(), Fail> {
-    let dfa = dfa::DFA::new(rt.alloc(), &[b"a", b"b"])?;
+    compare_shown(alloc, &noncontiguous::NFA::new(alloc, &patterns)?, wanted)?;
+    compare_shown(alloc, &contiguous::NFA::new(alloc, &patterns)?, wanted)?;
     let wanted = "DFA { match_kind: Standard, patterns: 2 }";
-    compare_shown(rt.alloc(), &dfa, wanted)
-}
-
-/// A stream that is refused.
-const STREAM: &[u8] = b"abc";
-
-/// Patterns that no stream is searched for.
-const WITH_EMPTY: [&[u8]; 2] = [b"a", b""];
-
-/// Tests that an automaton refuses a stream for this, and leaves the reader that it was lent as it was.
-fn compare_refusal<A: Automaton + Drop>(
-    alloc: Global,
-    automaton: A,
-    refusal: MatchError,
-) -> Result<(), Fail> {
-    let mut left = STREAM;
-    let matches = automaton.try_stream_find_iter(alloc, FromRead::new(&mut left));
-    match matches.err() {
-        Some(StreamError::Match(e)) if e == refusal && left == STREAM => Ok(()),
-        answer => Err(Fail::new(format_args!("{answer:?}, {left:?}"))),
-    }
-}
-
-#[test]
-fn a_refused_stream_is_not_read(rt: HostRuntime) -> Result<(), Fail> {
-    let (alloc, refusal) = (rt.alloc(), MatchError::UnsupportedEmpty);
-    compare_refusal(alloc, noncontiguous::NFA::new(alloc, &WITH_EMPTY)?, refusal)?;
-    compare_refusal(alloc, contiguous::NFA::new(alloc, &WITH_EMPTY)?, refusal)?;
-    compare_refusal(alloc, dfa::DFA::new(alloc, &WITH_EMPTY)?, refusal)
-}
-
-#[test]
-fn a_stream_that_lacks_its_start_is_not_read(rt: HostRuntime) -> Result<(), Fail> {
-    let trie = noncontiguous::NFA::new(rt.alloc(), &[b"a"])?;
-    let dfa = dfa_over(rt.alloc(), &trie, StartKind::Anchored)?;
-    compare_refusal(rt.alloc(), dfa, MatchError::InvalidInputUnanchored)
+    compare_shown(alloc, &dfa::DFA::new(alloc, &patterns)?, wanted)
 }

@@ -12,8 +12,8 @@ use ac_automaton::nfa::noncontiguous::FIRST_INNER;
 use ac_util::error::{BuildError, MatchError};
 use ac_util::looks::Looks;
 use ac_util::primitives::StateID;
+use ac_util::search::Anchored;
 use ac_util::search::Anchored::{No, Yes};
-use ac_util::search::{Anchored, StartKind};
 use std::process::Abort;
 use std::test::Fail;
 
@@ -33,37 +33,30 @@ fn state_after<A: Automaton>(
 }
 
 /// Compares the states of an automaton over the pronouns.
-fn compare_states<A: Automaton + Drop>(rt: &impl Abort, automaton: A) -> Result<(), MatchError> {
-    let she = state_after(&automaton, No, *b"she")?;
+pub(super) fn compare_states<A: Automaton>(
+    rt: &impl Abort,
+    automaton: &A,
+) -> Result<(), MatchError> {
+    let she = state_after(automaton, No, *b"she")?;
     assert!(rt; automaton.is_match(she) && automaton.match_len(she) == 2);
     let (first, second) = (
         automaton.match_pattern(she, 0),
         automaton.match_pattern(she, 1),
     );
     same(rt, (first.as_usize(), second.as_usize()), (1, 0));
-    let lost = state_after(&automaton, No, *b"shx")?;
+    let lost = state_after(automaton, No, *b"shx")?;
     let kinds = (
         automaton.is_start(lost),
         automaton.is_special(lost),
         automaton.is_match(lost),
     );
     same(rt, kinds, (true, true, false));
-    let dead = state_after(&automaton, Yes, *b"ush")?;
+    let dead = state_after(automaton, Yes, *b"ush")?;
     let kinds = (automaton.is_dead(dead), automaton.is_match_or_dead(dead));
     same(rt, kinds, (true, true));
     // A step that a state has no transition for goes on at its failure target, and so on.
-    let begun = state_after(&automaton, No, *b"xxh")?;
-    same(rt, state_after(&automaton, No, *b"shh")?, begun);
-    Ok(())
-}
-
-#[test]
-fn each_engine_has_the_same_states(rt: HostRuntime) -> Result<(), Fail> {
-    compare_states(&rt, noncontiguous::NFA::new(rt.alloc(), &PRONOUNS)?)?;
-    compare_states(&rt, contiguous::NFA::new(rt.alloc(), &PRONOUNS)?)?;
-    let mut builder = dfa::Builder::new();
-    builder.start_kind(StartKind::Both);
-    compare_states(&rt, builder.build(rt.alloc(), &PRONOUNS)?)?;
+    let begun = state_after(automaton, No, *b"xxh")?;
+    same(rt, state_after(automaton, No, *b"shh")?, begun);
     Ok(())
 }
 

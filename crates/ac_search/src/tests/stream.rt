@@ -11,7 +11,10 @@ use super::stream_rows::{
 use super::{Triple, same, same_by, triple_of};
 use crate::MatchKind::{LeftmostFirst, Standard};
 use crate::StartKind::Unanchored;
-use crate::{AhoCorasick, FromRead, MatchError, MatchKind, Sink, StartKind, StreamFindIter};
+use crate::{
+    AhoCorasick, FromRead, Match, MatchError, MatchKind, Sink, StartKind, StreamError,
+    StreamFindIter,
+};
 use std::alloc::{AllocError, Global};
 use std::io;
 use std::io::ErrorKind;
@@ -26,11 +29,13 @@ fn reader_of<'a>((bytes, most, good, stop): Given<'a>) -> Pieces<'a> {
 /// More calls than a row here has matches.
 const MOST: usize = 8;
 
-/// Returns the matches that a walk gives, how it ends, and whether nothing follows when it is asked twice more.
-fn walked<'a>(
+/// Returns the matches that an iterator gives, how it ends, and whether nothing follows when it is asked twice more.
+fn walked<I: Iterator<Item = Result<Match, StreamError>>>(
     alloc: Global,
-    matches: &mut StreamFindIter<'a, Pieces<'a>>,
-) -> Result<(Vec<Triple>, Option<End>, bool), AllocError> {
+    matches: &mut I,
+) -> Result<(Vec<Triple>, Option<End>, bool), AllocError>
+    requires can { (matches : _) → I.can_next matches }
+{
     let mut walk = Vec::new(alloc);
     let mut end = None;
     for _ in 0..MOST {
@@ -55,10 +60,10 @@ fn compare_given<'a>(
     rt: &impl Abort,
     alloc: Global,
     searcher: &AhoCorasick,
-    matches: &mut StreamFindIter<'a, Pieces<'a>>,
+    mut matches: StreamFindIter<'a, Pieces<'a>>,
     (_, wanted, end, kept): Walk<'a>,
 ) -> Result<(), AllocError> {
-    let (walk, ended, stays) = walked(alloc, matches)?;
+    let (walk, ended, stays) = walked(alloc, &mut matches)?;
     same_by(rt, (walk.as_slice(), ended), (wanted, Some(end)), searcher);
     same_by(rt, (stays, matches.kept_len()), (true, kept), searcher);
     Ok(())
@@ -71,11 +76,10 @@ fn compare_walk<'a>(
     searcher: &'a AhoCorasick,
     row: Walk<'a>,
 ) -> Result<(), Fail> {
-    let mut tried = searcher.try_stream_find_iter(alloc, reader_of(row.0))?;
-    compare_given(rt, alloc, searcher, &mut tried, row)?;
-    let mut begun = searcher.stream_find_iter(alloc, reader_of(row.0))?;
-    compare_given(rt, alloc, searcher, &mut begun, row)?;
-    Ok(())
+    let tried = searcher.try_stream_find_iter(alloc, reader_of(row.0))?;
+    compare_given(rt, alloc, searcher, tried, row)?;
+    let begun = searcher.stream_find_iter(alloc, reader_of(row.0))?;
+    Ok(compare_given(rt, alloc, searcher, begun, row)?)
 }
 
 /// Patterns, match kinds, and streams.

@@ -78,5 +78,5 @@ loop-found-smaller g c = grind (arith, common_steps)
 pub returns : goal.returns
 returns g c =
     ended c.args.text.now c.args.texts.now c.loop-found.place _ _ _ _ _
-      (ap (whole_characters c.args.text.now) c.in_default.ensures.0) c.loop-found.invariant.2
-      c.in_ok-push_str-3.ensures.bytes c.range_from.ensures.value
+    (ap (whole_characters c.args.text.now) c.in_default.ensures.0) c.loop-found.invariant.2
+    c.in_ok-push_str-3.ensures.bytes c.range_from.ensures.value

@@ -53,5 +53,5 @@ loop-found-smaller g c = grind (arith, common_steps)
 pub returns : goal.returns
 returns g c =
     ended c.args.haystack.now c.args.texts.now c.loop-found.place _ _ _ _ _ c.in_default.ensures.0
-      c.loop-found.invariant.1 c.in_ok-extend_from_slice-3.ensures.items
-      (slice_to_end c.args.haystack.now c.loop-found.place)
+    c.loop-found.invariant.1 c.in_ok-extend_from_slice-3.ensures.items
+    (slice_to_end c.args.haystack.now c.loop-found.place)

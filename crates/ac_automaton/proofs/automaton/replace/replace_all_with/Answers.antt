@@ -88,8 +88,11 @@ loop-found-preserved g c =
     let order = subst (AreInOrder (length text) texts c.loop-found.place) c.in-Some.ensures c.loop-found.invariant.2.1 in (
       c.loop-found.invariant.0,
       c.loop-found.invariant.1,
-      (texts, in_order-earlier (length text) texts c.loop-found.place found.end rest
-          (let start = order.0 in let end = order.1 in omega arith) order.4),
+      (
+        texts,
+        in_order-earlier (length text) texts c.loop-found.place found.end rest
+            (let start = order.0 in let end = order.1 in omega arith) order.4,
+      ),
       leads-skip c.loop-found.invariant.3
           (ap (whole_characters text) c.in-Some.ensures
           ∙ whole_characters-skip text found rest
