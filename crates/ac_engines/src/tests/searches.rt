@@ -300,6 +300,17 @@ fn compare_dfas(
     Ok(())
 }
 
+/// Compares the answers of the contiguous NFA.
+fn compare_contiguous(
+    rt: &impl Abort,
+    alloc: Global,
+    trie: &noncontiguous::NFA,
+    search: Search,
+    case: Case,
+) -> Result<(), Fail> {
+    compare(rt, alloc, &contiguous_over(alloc, trie)?, search, case)
+}
+
 /// Compares the answers of each engine over patterns.
 fn compare_engines(
     rt: &impl Abort,
@@ -315,7 +326,7 @@ fn compare_engines(
         (_, Yes) => StartKind::Anchored,
     };
     compare_dfas(rt, alloc, &trie, search, [StartKind::Both, one], case)?;
-    compare(rt, alloc, &contiguous_over(alloc, &trie)?, search, case)?;
+    compare_contiguous(rt, alloc, &trie, search, case)?;
     compare(rt, alloc, &trie, search, case)
 }
 

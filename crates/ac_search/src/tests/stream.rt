@@ -29,13 +29,11 @@ fn reader_of<'a>((bytes, most, good, stop): Given<'a>) -> Pieces<'a> {
 /// More calls than a row here has matches.
 const MOST: usize = 8;
 
-/// Returns the matches that an iterator gives, how it ends, and whether nothing follows when it is asked twice more.
-fn walked<I: Iterator<Item = Result<Match, StreamError>>>(
+/// Returns the matches that a walk gives, how it ends, and whether nothing follows when it is asked twice more.
+fn walked<'a>(
     alloc: Global,
-    matches: &mut I,
-) -> Result<(Vec<Triple>, Option<End>, bool), AllocError>
-    requires can { (matches : _) → I.can_next matches }
-{
+    matches: &mut StreamFindIter<'a, Pieces<'a>>,
+) -> Result<(Vec<Triple>, Option<End>, bool), AllocError> {
     let mut walk = Vec::new(alloc);
     let mut end = None;
     for _ in 0..MOST {
