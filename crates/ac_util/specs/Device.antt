@@ -1,6 +1,9 @@
 -- What a read and a write do, and what many of them do: which bytes move, and which counts rise.
 use Rattle.std.specs.Prelude.{◌≡◌, ℕ, ◌+◌, ◌<◌, ◌≤◌, Bool, true, ◌&&◌, ◌==◌, nat_lt, List, ◌++◌, length, take, Option, IfSome, Result, Ok, MatchResult, min, if◌then◌else◌}
 use Rattle.std.specs.Io.{StartsWith}
+use Rattle.std.specs.IoError.{error_kind}
+use Rattle.std.specs.declared.io.Error.{Error}
+use Rattle.std.specs.declared.io.ErrorKind.TheVariants.{WriteZero as OfKindWriteZero}
 use Rattle.std.specs.Io.KnownBytes.{Consumes, IsAtEnd, Appends}
 use Rattle.ac_util.specs.declared.device.WriteError.{WriteError}
 use Rattle.ac_util.specs.declared.device.WriteError.TheVariants.{Io, WriteZero}
@@ -98,6 +101,11 @@ pub record WritesSome (old new : Writing) (bytes : List ℕ) : Type 0 where
 abbrev pub HasCause : Writing → Writing → WriteError → Type 0
 HasCause old new (Io e) = (new.failed ≡ old.failed + 1) × (new.idles ≡ old.idles)
 HasCause old new WriteZero = (new.failed ≡ old.failed) × (new.idles ≡ old.idles + 1)
+
+-- the error is that of the write that failed, or its kind says that a write took nothing
+abbrev pub IsIoErrorOf : WriteError → Error → Type 0
+IsIoErrorOf (Io e) error = error ≡ e
+IsIoErrorOf WriteZero error = error_kind error ≡ OfKindWriteZero
 
 -- a beginning of the bytes was written, and then a write has failed or took nothing
 pub record WritesUntilFailure (old new : Writing) (bytes : List ℕ) (e : WriteError) : Type 0 where

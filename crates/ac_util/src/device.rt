@@ -1,6 +1,6 @@
 //! Readers and writers: where the bytes of a stream come from, and where they go.
 ghost use Rattle.std.specs.Prelude.{Bool};
-ghost use Rattle.ac_util.specs.Device.{Reading, Reads, Writing, Writes, WritesOrFails};
+ghost use Rattle.ac_util.specs.Device.{IsIoErrorOf, Reading, Reads, Writing, Writes, WritesOrFails};
 
 mod adapters;
 mod memory;
@@ -54,14 +54,28 @@ pub enum WriteError {
     WriteZero,
 }
 
-/// Makes `?` work where an `io::Error` is returned, as in a closure that replaces matches of a stream. The kind of the error
-/// is `WriteZero` where a write took no byte.
-impl From<WriteError> for io::Error {
-    fn from(error: WriteError) -> io::Error {
-        match error {
+impl WriteError {
+    /// Returns the error of the write that failed, or one of kind `WriteZero` where a write took no byte: what a closure
+    /// returns that replaces matches of a stream.
+    ///
+    /// See the example of `AhoCorasick::try_stream_replace_all_with`.
+    pub fn into_error(self) -> io::Error
+        ensures { IsIoErrorOf self result }
+    {
+        match self {
             WriteError::Io(e) => e,
             WriteError::WriteZero => io::Error::from(io::ErrorKind::WriteZero),
         }
+    }
+}
+
+/// Makes `?` work where an `io::Error` is returned, in a crate that lists `ac_util`. `WriteError::into_error` does the same
+/// everywhere.
+impl From<WriteError> for io::Error {
+    ghost from_gives = { IsIoErrorOf };
+
+    fn from(error: WriteError) -> io::Error {
+        error.into_error()
     }
 }
 
