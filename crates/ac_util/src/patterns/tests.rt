@@ -1,5 +1,5 @@
-use super::Patterns;
 use super::pieces::Pieces;
+use super::{Patterns, plain_byte};
 use crate::error::BuildError;
 use crate::tests::same;
 use std::alloc::{AllocError, Allocator};
@@ -56,6 +56,12 @@ fn pieces_and_their_copy_are_stored_in_order(rt: HostRuntime) -> Result<(), Fail
         same(&rt, copy.get(index), piece);
     }
     Ok(())
+}
+
+#[test]
+fn a_capital_is_plain_where_case_counts(rt: HostRuntime) {
+    let bytes = (plain_byte(true, b'A'), plain_byte(false, b'A'));
+    same(&rt, bytes, (b'a', b'A'));
 }
 
 #[test]
