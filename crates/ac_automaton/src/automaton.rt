@@ -259,8 +259,8 @@ pub trait Automaton {
     ///
     /// ```
     /// let nfa = noncontiguous::NFA::new(alloc, &[b"he", b"she"])?;
-    /// let found = nfa.try_find(Input::new(b"ushers"))?;
-    /// assert_eq!(rt; found, Some(Match::must(1, 1..4)));
+    /// let found = nfa.try_find(Input::new(b"ushers"));
+    /// assert_eq!(rt; found, Ok(Some(Match::must(1, 1..4))));
     /// ```
     #[inline]
     final fn try_find(&self, input: Input<'_>) -> Result<Option<Match>, MatchError>

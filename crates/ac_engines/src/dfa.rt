@@ -41,8 +41,8 @@ const DEAD: usize = 0;
 ///
 /// ```
 /// let dfa = dfa::DFA::new(alloc, &[b"he", b"she"])?;
-/// let found = dfa.try_find(Input::new(b"ushers"))?;
-/// assert_eq!(rt; found, Some(Match::must(1, 1..4)));
+/// let found = dfa.try_find(Input::new(b"ushers"));
+/// assert_eq!(rt; found, Ok(Some(Match::must(1, 1..4))));
 /// ```
 #[derive(Drop)]
 pub struct DFA<A: Allocator = Global> {

@@ -6,7 +6,6 @@ use std::alloc::{AllocError, Global};
 use std::fmt::Debug;
 use std::process::Abort;
 
-mod examples;
 pub(crate) mod searches;
 mod states;
 

@@ -4,7 +4,4 @@ pub mod SomeMatch
 pub mod InOrder
 pub mod Words
 pub mod StreamsWritten
-pub mod TokenLemmas
-pub mod LabelCounts
-pub mod Tokenizing
 pub mod StreamLoops

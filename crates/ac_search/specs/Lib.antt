@@ -2,7 +2,6 @@
 -- crate cite, so that a user need not list those crates. Each keeps its name, as `Built` here is `Built` of ac_util, and
 -- the constant `GREATEST` is in `Numbers`.
 pub mod Alike
-pub mod Callers
 pub mod Engines
 pub mod Prelude
 pub mod Searchers

@@ -128,8 +128,8 @@ impl AhoCorasick {
     /// builder.match_kind(MatchKind::LeftmostLongest);
     /// let longest = builder.build(alloc, patterns)?;
     /// let input = Input::new(b"Samwise");
-    /// assert_eq!(rt; standard.try_find(input)?, Some(Match::must(0, 0..3)));
-    /// assert_eq!(rt; longest.try_find(input)?, Some(Match::must(1, 0..7)));
+    /// assert_eq!(rt; standard.try_find(input), Ok(Some(Match::must(0, 0..3))));
+    /// assert_eq!(rt; longest.try_find(input), Ok(Some(Match::must(1, 0..7))));
     /// ```
     pub fn builder() -> AhoCorasickBuilder
         ensures { result ≡ usual_settings }

@@ -1,9 +1,8 @@
 //! Searches for all matches of many patterns at once.
 //!
 //! `AhoCorasick` is the searcher. Everything that contracts here cite has a name in this crate, so a user lists no
-//! other crate, but `ac_util` where `?` makes an `io::Error` of a `WriteError`. Definitions are in `specs/`, and types
-//! with their cases in `specs.declared`, as `Rattle.ac_search.specs.declared.MatchKind.TheVariants`. A function that is
-//! handed a searcher cites them:
+//! other crate. Definitions are in `specs/`, and types with their cases in `specs.declared`, as
+//! `Rattle.ac_search.specs.declared.MatchKind.TheVariants`. A function that is handed a searcher cites them:
 //!
 //! ```
 //! ghost use Rattle.ac_search.specs.Built.{find_refusal, find_result};

@@ -1,22 +1,16 @@
-ghost use Rattle.std.specs.Prelude.{◌≡◌, None, length};
 ghost use Rattle.std.specs.Iterator.{IsFinite};
-ghost use Rattle.ac_search.specs.Built.{find_refusal, walk_result, AreTexts};
-ghost use Rattle.ac_search.specs.Input.{whole_input};
 
 use crate::MatchKind::{LeftmostFirst, LeftmostLongest, Standard};
 use crate::StartKind::Both;
-use crate::laws::{answers_cut_no_character, answers_lie_inside};
 use crate::{AhoCorasick, AhoCorasickBuilder, AhoCorasickKind, Input, Match, MatchKind, StartKind};
 use std::alloc::{AllocError, Global};
 use std::fmt::Debug;
 use std::process::Abort;
 use std::test::Fail;
 
-mod callers;
 mod choice;
 mod devices;
 mod engines;
-mod examples;
 mod listings;
 mod refusals;
 mod replace;
@@ -79,89 +73,6 @@ fn same_walk(
 ) -> Result<(), Fail> {
     let walked = walk_of(alloc, searcher, input)?;
     same(rt, walked.as_slice(), wanted);
-    Ok(())
-}
-
-/// Returns the parts of a text at which the matches stand, where the patterns cut no character.
-fn parts_of<'t>(
-    alloc: Global,
-    searcher: &AhoCorasick,
-    text: &'t str,
-) -> Result<Vec<&'t str>, AllocError>
-    requires supported { find_refusal searcher.now.built (whole_input text.now) ≡ None }
-    requires texts { AreTexts searcher.now.built.patterns }
-{
-    let mut parts = Vec::new(alloc);
-    answers_cut_no_character(searcher, Input::of_text(text));
-    for m in searcher.find_iter(Input::of_text(text)) {
-        parts.push(&text[m.range()])?;
-    }
-    Ok(parts)
-}
-
-/// Returns the name that belongs to the pattern of each match, and the slice at which the match stands.
-fn names_and_slices_of<'n, 't>(
-    alloc: Global,
-    searcher: &AhoCorasick,
-    names: &[&'n str],
-    haystack: &'t [u8],
-) -> Result<Vec<(&'n str, &'t [u8])>, AllocError>
-    requires supported { find_refusal searcher.now.built (whole_input haystack.now) ≡ None }
-    requires named { length names.now ≡ length searcher.now.built.patterns }
-{
-    let input = Input::new(haystack);
-    let mut found = Vec::new(alloc);
-    answers_lie_inside(searcher, input);
-    for m in searcher.find_iter(input) {
-        found.push((names[m.pattern().as_usize()], &haystack[m.range()]))?;
-    }
-    Ok(found)
-}
-
-/// Returns how many matches the walk has.
-fn count_of(searcher: &AhoCorasick, haystack: &[u8]) -> usize
-    requires { find_refusal searcher.now.built (whole_input haystack.now) ≡ None }
-    ensures { result ≡ length (walk_result searcher.now.built (whole_input haystack.now)) }
-{
-    answers_lie_inside(searcher, Input::new(haystack));
-    searcher.find_iter(Input::new(haystack)).count()
-}
-
-/// Returns the slice at which the first match stands.
-fn first_slice<'t>(searcher: &AhoCorasick, haystack: &'t [u8]) -> Option<&'t [u8]>
-    requires { find_refusal searcher.now.built (whole_input haystack.now) ≡ None }
-{
-    answers_lie_inside(searcher, Input::new(haystack));
-    let m = searcher.find(Input::new(haystack))?;
-    Some(&haystack[m.range()])
-}
-
-#[test]
-fn matches_can_be_used_as_indices(rt: HostRuntime) -> Result<(), Fail> {
-    let searcher = AhoCorasick::new(rt.alloc(), &[b"apple", b"maple", b"Snapple"])?;
-    let haystack = b"Nobody likes maple in their apple flavored Snapple.";
-    let names = ["fruit", "tree", "drink"];
-    let found = names_and_slices_of(rt.alloc(), &searcher, &names, haystack)?;
-    let wanted: [(&str, &[u8]); 3] = [
-        ("tree", b"maple"),
-        ("fruit", b"apple"),
-        ("drink", b"Snapple"),
-    ];
-    same(&rt, found.as_slice(), wanted.as_slice());
-    same(&rt, count_of(&searcher, haystack), 3);
-    same(
-        &rt,
-        first_slice(&searcher, haystack),
-        Some(b"maple".as_slice()),
-    );
-    Ok(())
-}
-
-#[test]
-fn matches_of_texts_cut_no_character(rt: HostRuntime) -> Result<(), Fail> {
-    let searcher = AhoCorasick::new(rt.alloc(), &["é".as_bytes(), "a".as_bytes()])?;
-    let parts = parts_of(rt.alloc(), &searcher, "aêéa")?;
-    same(&rt, parts.as_slice(), ["a", "é", "a"].as_slice());
     Ok(())
 }
 

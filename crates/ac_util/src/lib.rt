@@ -13,5 +13,3 @@ pub mod prefilter;
 pub mod primitives;
 pub mod search;
 pub mod tally;
-#[cfg(test)]
-mod tests;

@@ -84,11 +84,6 @@ impl<A: Allocator + Clone> Patterns<A> {
 }
 
 /// Returns the byte itself or, where case is ignored and it is an ASCII capital, its small letter.
-///
-/// ```
-/// assert_eq!(rt; plain_byte(true, b'A'), b'a');
-/// assert_eq!(rt; plain_byte(false, b'A'), b'A');
-/// ```
 #[inline]
 pub fn plain_byte(ignores_case: bool, byte: u8) -> u8
     ensures { result ≡ plain_byte ignores_case byte }

@@ -21,15 +21,14 @@ use std::ops::Range;
 /// ```
 /// let patterns: &[&[u8]] = &[b"b", b"abc", b"abcd"];
 /// let mut builder = AhoCorasick::builder();
-/// let standard = builder.build(alloc, patterns)?;
-/// builder.match_kind(MatchKind::LeftmostFirst);
-/// let first = builder.build(alloc, patterns)?;
-/// builder.match_kind(MatchKind::LeftmostLongest);
-/// let longest = builder.build(alloc, patterns)?;
-/// let input = Input::new(b"abcd");
-/// assert_eq!(rt; standard.try_find(input)?, Some(Match::must(0, 1..2)));
-/// assert_eq!(rt; first.try_find(input)?, Some(Match::must(1, 0..3)));
-/// assert_eq!(rt; longest.try_find(input)?, Some(Match::must(2, 0..4)));
+/// for (kind, found) in [
+///     (MatchKind::Standard, Match::must(0, 1..2)),
+///     (MatchKind::LeftmostFirst, Match::must(1, 0..3)),
+///     (MatchKind::LeftmostLongest, Match::must(2, 0..4)),
+/// ] {
+///     let searcher = builder.match_kind(kind).build(alloc, patterns)?;
+///     assert_eq!(rt; searcher.try_find(Input::new(b"abcd")), Ok(Some(found)));
+/// }
 /// ```
 #[derive(Clone, Copy, PartialEq, Eq, Default, Debug)]
 pub enum MatchKind {

@@ -38,8 +38,8 @@ pub use state::{ANCHORED_START, DEAD, FAIL, FIRST_INNER, START};
 ///
 /// ```
 /// let nfa = noncontiguous::NFA::new(alloc, &[b"he", b"she"])?;
-/// let found = nfa.try_find(Input::new(b"ushers"))?;
-/// assert_eq!(rt; found, Some(Match::must(1, 1..4)));
+/// let found = nfa.try_find(Input::new(b"ushers"));
+/// assert_eq!(rt; found, Ok(Some(Match::must(1, 1..4))));
 /// ```
 #[derive(Drop)]
 pub struct NFA<A: Allocator = Global> {

@@ -35,7 +35,7 @@ use std::marker::Model;
 /// builder.start_kind(StartKind::Both).byte_classes(false);
 /// let dfa = builder.build(alloc, &[b"Sam", b"Samwise"])?;
 /// let input = Input::new(b"Samwise").anchored(Anchored::Yes);
-/// assert_eq!(rt; dfa.try_find(input)?, Some(Match::must(0, 0..3)));
+/// assert_eq!(rt; dfa.try_find(input), Ok(Some(Match::must(0, 0..3))));
 /// ```
 #[derive(Debug, Drop)]
 pub struct Builder {
@@ -187,8 +187,8 @@ impl Builder {
     /// let builder = dfa::Builder::new();
     /// assert!(rt; builder.fits(&nfa));
     /// let dfa = builder.build_from_noncontiguous(alloc, &nfa)?;
-    /// let found = dfa.try_find(Input::new(b"ushers"))?;
-    /// assert_eq!(rt; found, Some(Match::must(1, 1..4)));
+    /// let found = dfa.try_find(Input::new(b"ushers"));
+    /// assert_eq!(rt; found, Ok(Some(Match::must(1, 1..4))));
     /// ```
     pub fn build_from_noncontiguous<A: Allocator + Clone>(
         &self,

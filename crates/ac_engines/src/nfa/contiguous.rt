@@ -44,8 +44,8 @@ pub use format::{Format, check_words, format_of, state_words};
 ///
 /// ```
 /// let nfa = contiguous::NFA::new(alloc, &[b"he", b"she"])?;
-/// let found = nfa.try_find(Input::new(b"ushers"))?;
-/// assert_eq!(rt; found, Some(Match::must(1, 1..4)));
+/// let found = nfa.try_find(Input::new(b"ushers"));
+/// assert_eq!(rt; found, Ok(Some(Match::must(1, 1..4))));
 /// ```
 #[derive(Drop)]
 pub struct NFA<A: Allocator = Global> {

@@ -35,7 +35,7 @@ const USUAL_DENSE_DEPTH: usize = 2;
 ///     .start_kind(StartKind::Both);
 /// let searcher = builder.build(alloc, patterns)?;
 /// let input = Input::new(b"foo BAR");
-/// assert_eq!(rt; searcher.try_find(input)?, Some(Match::must(0, 4..7)));
+/// assert_eq!(rt; searcher.try_find(input), Ok(Some(Match::must(0, 4..7))));
 /// ```
 #[derive(Debug, Drop)]
 pub struct AhoCorasickBuilder {
@@ -115,8 +115,8 @@ impl AhoCorasickBuilder {
     /// builder.match_kind(MatchKind::LeftmostLongest);
     /// let longest = builder.build(alloc, patterns)?;
     /// let input = Input::new(b"Samwise");
-    /// assert_eq!(rt; standard.try_find(input)?, Some(Match::must(0, 0..3)));
-    /// assert_eq!(rt; longest.try_find(input)?, Some(Match::must(1, 0..7)));
+    /// assert_eq!(rt; standard.try_find(input), Ok(Some(Match::must(0, 0..3))));
+    /// assert_eq!(rt; longest.try_find(input), Ok(Some(Match::must(1, 0..7))));
     /// ```
     pub fn match_kind(&mut self, kind: MatchKind) -> &mut AhoCorasickBuilder
         ensures value { result.now ≡ record self.old { engine = record self.old.engine { kind = kind } } }
@@ -139,8 +139,8 @@ impl AhoCorasickBuilder {
     /// let input = Input::new(b"abcd");
     /// let refused = searcher.try_find(input);
     /// assert_eq!(rt; refused, Err(MatchError::InvalidInputUnanchored));
-    /// let found = searcher.try_find(input.anchored(Anchored::Yes))?;
-    /// assert_eq!(rt; found, Some(Match::must(1, 0..3)));
+    /// let found = searcher.try_find(input.anchored(Anchored::Yes));
+    /// assert_eq!(rt; found, Ok(Some(Match::must(1, 0..3))));
     /// ```
     pub fn start_kind(&mut self, kind: StartKind) -> &mut AhoCorasickBuilder
         ensures value { result.now ≡ record self.old { start_kind = kind } }
@@ -162,7 +162,7 @@ impl AhoCorasickBuilder {
     ///     .start_kind(StartKind::Both);
     /// let searcher = builder.build(alloc, patterns)?;
     /// let input = Input::new(b"foo BAR");
-    /// assert_eq!(rt; searcher.try_find(input)?, Some(Match::must(0, 4..7)));
+    /// assert_eq!(rt; searcher.try_find(input), Ok(Some(Match::must(0, 4..7))));
     /// ```
     pub fn ascii_case_insensitive(&mut self, yes: bool) -> &mut AhoCorasickBuilder
         ensures value { result.now ≡ record self.old { engine = record self.old.engine { ignores_case = yes } } }
@@ -184,8 +184,8 @@ impl AhoCorasickBuilder {
     /// let copy = builder.clone();
     /// let searcher = copy.build(alloc, &[b"foo", b"bar"])?;
     /// assert_eq!(rt; searcher.kind(), AhoCorasickKind::ContiguousNFA);
-    /// let found = searcher.try_find(Input::new(b"xx bar"))?;
-    /// assert_eq!(rt; found, Some(Match::must(1, 3..6))); // as with any engine
+    /// let found = searcher.try_find(Input::new(b"xx bar"));
+    /// assert_eq!(rt; found, Ok(Some(Match::must(1, 3..6)))); // as with any engine
     /// ```
     pub fn kind(&mut self, kind: Option<AhoCorasickKind>) -> &mut AhoCorasickBuilder
         ensures value { result.now ≡ record self.old { kind = kind } }

@@ -60,14 +60,11 @@ impl<A: Allocator> AhoCorasick<A> {
     /// with `UnsupportedEmpty` where some pattern is empty; else `StreamError::Memory` where the memory for the buffer
     /// is refused. Nothing was read then.
     ///
-    /// With a searcher over "secret" and "password":
-    ///
     /// ```
-    /// let mut ends = Vec::new(alloc);
-    /// for found in searcher.try_stream_find_iter(alloc, Bytes::new(b"a secret password"))? {
-    ///     ends.push(found?.end())?;
-    /// }
-    /// assert_eq!(rt; ends.as_slice(), [8, 17].as_slice());
+    /// let searcher = AhoCorasick::new(alloc, &[b"secret".as_slice(), b""])?;
+    /// let reader = Bytes::new(b"a secret");
+    /// let refused = searcher.try_stream_find_iter(alloc, reader).err();
+    /// assert!(rt; matches!(refused, Some(StreamError::Match(_)))); // one pattern is empty
     /// ```
     pub fn try_stream_find_iter<R: Source + Drop, Z: Allocator>(
         &self,
@@ -130,14 +127,12 @@ impl<A: Allocator> AhoCorasick<A> {
     /// As `try_stream_replace_all`; and `Io` where the closure failed: what it wrote stays written, and nothing
     /// follows. The law `closures_write_exchanged` says what was written by the stream alone.
     ///
-    /// A crate in which `?` makes an `io::Error` of what `write_all` returns has to list `ac_util`.
-    ///
     /// ```
     /// let searcher = AhoCorasick::new(alloc, &[b"fox", b"brown", b"quick"])?;
     /// let (mut reader, mut writer) = (Bytes::new(b"a fox"), Written::new(alloc));
     /// let closure = |_: &Match, slice: &[u8], writer: &mut Written<Global>| {
-    ///     write_all(writer, slice)?;
-    ///     Ok(write_all(writer, b"!")?)
+    ///     write_all(writer, slice).map_err(WriteError::into_error)?;
+    ///     write_all(writer, b"!").map_err(WriteError::into_error)
     /// };
     /// searcher.try_stream_replace_all_with(alloc, &mut reader, &mut writer, closure)?;
     /// assert_eq!(rt; writer.bytes(), b"a fox!".as_slice());

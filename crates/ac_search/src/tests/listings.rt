@@ -1,16 +1,11 @@
 //! Each engine lists all occurrences as rows say.
-ghost use Rattle.std.specs.Prelude.{◌≡◌, IfOk, None};
-ghost use Rattle.ac_search.specs.Built.{overlapping_refusal, search_in};
-ghost use Rattle.ac_search.specs.Listing.{all};
-ghost use Rattle.ac_search.specs.Input.{whole_input};
-
 use super::engines::{ALL, builder_of, engines};
 use super::rows::{SENTENCE, WORDS};
-use super::{Triple, same, same_by, triple_of, triples_of};
+use super::{Triple, same_by, triple_of, triples_of};
 use crate::MatchKind::Standard;
 use crate::StartKind::{Both, Unanchored};
-use crate::{AhoCorasick, AhoCorasickBuilder, Anchored, Input, Match, OverlappingState, StartKind};
-use std::alloc::{AllocError, Global};
+use crate::{AhoCorasick, AhoCorasickBuilder, Anchored, Input, OverlappingState, StartKind};
+use std::alloc::Global;
 use std::process::Abort;
 use std::test::Fail;
 
@@ -133,38 +128,5 @@ fn each_engine_lists_alike(rt: HostRuntime) -> Result<(), Fail> {
             }
         }
     }
-    Ok(())
-}
-
-/// Returns all occurrences in a haystack, one call after another.
-fn all_by_state(
-    alloc: Global,
-    searcher: &AhoCorasick,
-    haystack: &[u8],
-) -> Result<Vec<Match>, AllocError>
-    requires { overlapping_refusal searcher.now.built (whole_input haystack.now) ≡ None }
-    ensures { IfOk result (λ found. found.items
-        ≡ all (search_in searcher.now.built (whole_input haystack.now))) }
-{
-    let mut state = OverlappingState::start();
-    let mut found = Vec::new(alloc);
-    loop {
-        searcher.find_overlapping(Input::new(haystack), &mut state);
-        let Some(m) = state.get_match() else {
-            return Ok(found);
-        };
-        found.push(m)?;
-    }
-}
-
-#[test]
-fn all_occurrences_are_listed(rt: HostRuntime) -> Result<(), Fail> {
-    let searcher = AhoCorasick::new(rt.alloc(), &[b"he", b"she", b"his", b"hers"])?;
-    let found = all_by_state(rt.alloc(), &searcher, b"ushers")?;
-    let listed = triples_of(rt.alloc(), found.into_iter())?;
-    let wanted = [(1, 1, 4), (0, 2, 4), (3, 2, 6)];
-    same(&rt, listed.as_slice(), wanted.as_slice());
-    let items = searcher.find_overlapping_iter(Input::new(b"ushers"));
-    same(&rt, items.count(), 3);
     Ok(())
 }

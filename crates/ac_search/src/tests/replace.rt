@@ -1,16 +1,11 @@
 //! Each engine replaces as rows say, by lists and by closures.
-ghost use Rattle.std.specs.Prelude.{◌≡◌, ◌++◌, IfOk, List, ℕ, None, [], string_bytes};
-ghost use Rattle.ac_search.specs.Built.{exchanged, replace_refusal};
-ghost use Rattle.ac_search.specs.Replacement.{exchanged_from};
-
 use super::engines::{ALL, builder_of, engines};
 use super::rows::WORDS;
 use super::{same, same_by};
 use crate::MatchKind::{LeftmostFirst, Standard};
 use crate::StartKind::{Both, Unanchored};
-use crate::laws::{closure_exchanges, text_closure_exchanges};
-use crate::{AhoCorasick, Match, MatchError, MatchKind, ReplaceError};
-use std::alloc::{AllocError, Global};
+use crate::{AhoCorasick, MatchError, MatchKind, ReplaceError};
+use std::alloc::Global;
 use std::process::Abort;
 use std::test::Fail;
 
@@ -245,50 +240,6 @@ fn each_engine_calls_closures_alike(rt: HostRuntime) -> Result<(), Fail> {
             compare_closures(&rt, rt.alloc(), &searcher, row)?;
         }
     }
-    Ok(())
-}
-
-/// Appends the haystack without its matches.
-fn remove(
-    searcher: &AhoCorasick,
-    haystack: &[u8],
-    destination: &mut Vec<u8>,
-) -> Result<(), AllocError>
-    requires { replace_refusal searcher.now.built ≡ None }
-    ensures { IfOk result (λ _. destination.new.items ≡ destination.old.items
-        ++ exchanged_from haystack.now (λ _ _. []) 0 (exchanged searcher.now.built haystack.now)) }
-{
-    let nothing = |_: &Match, _: &[u8], _: &mut Vec<u8>| true;
-    closure_exchanges(&nothing);
-    searcher.replace_all_with_bytes(haystack, destination, nothing)
-}
-
-/// Appends the text with a mark in place of each match. What was in the destination stays there.
-fn mark(searcher: &AhoCorasick, text: &str, destination: &mut String) -> Result<(), AllocError>
-    requires { replace_refusal searcher.now.built ≡ None }
-    ensures { (more : List ℕ) × (string_bytes destination.new ≡ string_bytes destination.old ++ more) }
-{
-    let dash = |_: &Match, _: &str, destination: &mut String| destination.push_str("-").is_ok();
-    text_closure_exchanges(&dash);
-    searcher.replace_all_with(text, destination, dash)
-}
-
-#[test]
-fn a_closure_in_bytes_needs_its_own_contract_alone(rt: HostRuntime) -> Result<(), Fail> {
-    let searcher = AhoCorasick::new(rt.alloc(), &[b"app"])?;
-    let mut removed = Vec::new(rt.alloc());
-    removed.extend_from_slice(b"pre")?;
-    remove(&searcher, b"an app, apps", &mut removed)?;
-    same(&rt, removed.as_slice(), b"prean , s".as_slice());
-    Ok(())
-}
-
-#[test]
-fn a_closure_in_text_needs_its_own_contract_alone(rt: HostRuntime) -> Result<(), Fail> {
-    let searcher = AhoCorasick::new(rt.alloc(), &[b"app"])?;
-    let mut marked = String::from_str(rt.alloc(), "pre")?;
-    mark(&searcher, "an app, apps", &mut marked)?;
-    same(&rt, marked.as_str(), "prean -, -s");
     Ok(())
 }
 

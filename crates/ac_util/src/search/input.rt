@@ -110,9 +110,9 @@ impl<'h> Input<'h> {
     /// builder.start_kind(StartKind::Both);
     /// let searcher = builder.build(alloc, &[b"bar"])?;
     /// let input = Input::new(b"foo bar").anchored(Anchored::Yes);
-    /// assert_eq!(rt; searcher.try_find(input)?, None);
-    /// let found = searcher.try_find(input.range(4..7))?;
-    /// assert_eq!(rt; found, Some(Match::must(0, 4..7)));
+    /// assert_eq!(rt; searcher.try_find(input), Ok(None));
+    /// let found = searcher.try_find(input.range(4..7));
+    /// assert_eq!(rt; found, Ok(Some(Match::must(0, 4..7))));
     /// ```
     #[inline]
     pub fn anchored(mut self, mode: Anchored) -> Input<'h>
@@ -132,9 +132,9 @@ impl<'h> Input<'h> {
     /// builder.match_kind(MatchKind::LeftmostLongest);
     /// let searcher = builder.build(alloc, &[b"b", b"abc", b"abcd"])?;
     /// let input = Input::new(b"abcd");
-    /// assert_eq!(rt; searcher.try_find(input)?, Some(Match::must(2, 0..4)));
-    /// let earliest = searcher.try_find(input.earliest(true))?;
-    /// assert_eq!(rt; earliest, Some(Match::must(0, 1..2)));
+    /// assert_eq!(rt; searcher.try_find(input), Ok(Some(Match::must(2, 0..4))));
+    /// let earliest = searcher.try_find(input.earliest(true));
+    /// assert_eq!(rt; earliest, Ok(Some(Match::must(0, 1..2))));
     /// ```
     #[inline]
     pub fn earliest(mut self, yes: bool) -> Input<'h>

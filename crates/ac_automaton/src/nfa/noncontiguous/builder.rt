@@ -25,8 +25,8 @@ use std::marker::Model;
 /// builder.ascii_case_insensitive(true).prefilter(false);
 /// let copy = builder.clone();
 /// let nfa = copy.build(alloc, &[b"Sam", b"Samwise"])?;
-/// let found = nfa.try_find(Input::new(b"SAMWISE"))?;
-/// assert_eq!(rt; found, Some(Match::must(0, 0..3)));
+/// let found = nfa.try_find(Input::new(b"SAMWISE"));
+/// assert_eq!(rt; found, Ok(Some(Match::must(0, 0..3))));
 /// ```
 #[derive(Debug, Drop)]
 pub struct Builder {

@@ -30,8 +30,8 @@ const USUAL_DENSE_DEPTH: usize = 2;
 /// builder.match_kind(MatchKind::LeftmostFirst);
 /// builder.dense_depth(3).byte_classes(false).prefilter(false);
 /// let nfa = builder.build(alloc, &[b"Sam", b"Samwise"])?;
-/// let found = nfa.try_find(Input::new(b"Samwise"))?;
-/// assert_eq!(rt; found, Some(Match::must(0, 0..3)));
+/// let found = nfa.try_find(Input::new(b"Samwise"));
+/// assert_eq!(rt; found, Ok(Some(Match::must(0, 0..3))));
 /// ```
 #[derive(Debug, Drop)]
 pub struct Builder {
@@ -185,8 +185,8 @@ impl Builder {
     /// let builder = contiguous::Builder::new();
     /// assert!(rt; builder.fits(&nfa));
     /// let nfa = builder.build_from_noncontiguous(alloc, &nfa)?;
-    /// let found = nfa.try_find(Input::new(b"ushers"))?;
-    /// assert_eq!(rt; found, Some(Match::must(1, 1..4)));
+    /// let found = nfa.try_find(Input::new(b"ushers"));
+    /// assert_eq!(rt; found, Ok(Some(Match::must(1, 1..4))));
     /// ```
     pub fn build_from_noncontiguous<A: Allocator + Clone>(
         &self,

@@ -1,8 +1,8 @@
 //! Lists of patterns, as they are stored.
 use crate::tests::same;
 use ac_util::error::BuildError;
-use ac_util::patterns::Patterns;
 use ac_util::patterns::pieces::Pieces;
+use ac_util::patterns::{Patterns, plain_byte};
 use std::alloc::{AllocError, Allocator};
 use std::test::Fail;
 
@@ -57,6 +57,12 @@ fn pieces_and_their_copy_are_stored_in_order(rt: HostRuntime) -> Result<(), Fail
         same(&rt, copy.get(index), piece);
     }
     Ok(())
+}
+
+#[test]
+fn a_capital_is_plain_where_case_counts(rt: HostRuntime) {
+    let bytes = (plain_byte(true, b'A'), plain_byte(false, b'A'));
+    same(&rt, bytes, (b'a', b'A'));
 }
 
 #[test]

@@ -1,6 +1,0 @@
-use Rattle.std.specs.List.{AllByRecursion}
-use Rattle.ac_search.specs.Built.{IsBetweenCharacters}
-use Rattle.ac_search.proofs.tests.parts_of.Given as goal
-
-abbrev pub invariant-loop-m : goal.invariant-loop-m
-invariant-loop-m l = AllByRecursion (IsBetweenCharacters l.text) l.m-iterator.rest

@@ -1,0 +1,2 @@
+-- What the callers are to do.
+pub mod Callers
