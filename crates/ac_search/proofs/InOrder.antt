@@ -1,5 +1,5 @@
 -- The matches of a walk stand one after another.
-use Rattle.std.proofs.Common.{◌≡◌, ℕ, suc, ◌+◌, ◌<◌, ◌≤◌, false, List, [], ◌∷◌, length, arith, All, AllPairs}
+use Rattle.std.proofs.Common.{◌≡◌, ℕ, suc, ◌≤◌, false, List, [], ◌∷◌, length, arith, All, AllPairs}
 use Rattle.std.proofs.lemmas.List.Elements.{All-head, All-tail, All-weaker}
 use Rattle.ac_automaton.specs.Util.{Built, has_empty, InputView, LiesIn, Occurrence, order_of, search_in, walk_result}
 use Rattle.ac_util.specs.Walk.{IsAfter}

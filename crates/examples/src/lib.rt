@@ -1,8 +1,8 @@
 //! What a user of this library writes: callers with contracts of their own, and the examples of the pages.
 //!
-//! A user lists `ac_search` alone, as this crate does, and finds every name, law and definition there. All modules are
-//! compiled for tests alone, so each function is proved once and run. A caller's own definitions are in `specs/`, and
-//! what is written of its proof is in `proofs/`, under its path.
+//! A user lists `ac_search` and no other crate of this repository, as here, and finds every name, law and definition
+//! there. All modules are compiled for tests alone, so each function is proved once and run. A caller's own definitions
+//! are in `specs/`, and what is written of its proof is in `proofs/`, under its path.
 //!
 //! Callers, of which CALLING.md explains most:
 //!
