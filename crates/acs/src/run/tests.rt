@@ -1,10 +1,13 @@
-//! Runs over readers and writers that do little, pause or fail. What they write otherwise is tried with the built program: its
-//! runs stand in runs.txt.
-use super::{Outcome, status};
+//! Runs over devices that do little, pause or fail. What they write otherwise is tried with the built program: its runs stand
+//! in runs.txt.
+use super::{Outcome, run, status};
 use crate::fault::Fault;
+use crate::tests::devices::Device;
 use crate::tests::same_by;
+use ac_search::{FromRead, IntoWrite};
+use std::alloc::Global;
+use std::process::Abort;
 
-mod devices;
 mod reads;
 mod sizes;
 mod writes;
@@ -33,6 +36,29 @@ const STREAMED: &[(&[&str], &[u8])] = &[
     (&["stream", "std", "auto", "ab", "c"], LINES),
     (&["sreplace", "std", "auto", "ab", "-", "c", "+"], b"-+x-"),
 ];
+
+/// Runs from one device into another.
+fn run_between(alloc: Global, words: &[&str], from: &mut Device, into: &mut Device) -> Ending {
+    run(
+        alloc,
+        words,
+        &mut FromRead::new(from),
+        &mut IntoWrite::new(into),
+    )
+}
+
+/// Tests how a run from one device into another ends, and that these bytes stand in that one then.
+fn ends_with(
+    rt: &impl Abort,
+    alloc: Global,
+    words: &[&str],
+    from: &mut Device,
+    into: &mut Device,
+    (ending, written): (Ending, &[u8]),
+) {
+    same_by(rt, run_between(alloc, words, from, into), ending, &words);
+    same_by(rt, into.held.as_slice(), written, &words);
+}
 
 /// Each fault, and what its line says after the program's name.
 const FAULTS: &[(Fault, &str)] = &[

@@ -1,13 +1,19 @@
 //! Searchers past sizes at which a body might answer otherwise, or report lack of memory that wasn't refused.
-use super::same_by;
+ghost use Rattle.std.specs.Prelude.{◌≡◌, length};
+
+use super::many;
 use ac_search::{
-    AhoCorasick, AhoCorasickBuilder, AhoCorasickKind, Bytes, Input, Match, Sink, Written,
+    AhoCorasick, AhoCorasickBuilder, AhoCorasickKind, BuildError, Bytes, Input, Match,
+    ReplaceError, Sink, StreamError, Written,
 };
 use std::alloc::{AllocError, Global};
 use std::test::Fail;
 
 /// How many words there are, each of which has states of its own: more than 10,000, and than 100,000 states.
 const WORDS: usize = 10_500;
+
+/// How many digits a word has.
+const DIGITS: usize = 15;
 
 /// How long a haystack is: more than a mebibyte, and than a million matches.
 const LONG: usize = 1_100_000;
@@ -20,41 +26,63 @@ const ENGINES: [Option<AhoCorasickKind>; 4] = [
     Some(AhoCorasickKind::DFA),
 ];
 
-/// Returns words that begin with the digits of their number.
+/// Returns the word that begins with the digits of a number.
+fn word(alloc: Global, number: usize) -> Result<String, AllocError> {
+    format!(in alloc; "{number:05}{number:010}")
+}
+
+/// Returns all words.
 fn words(alloc: Global) -> Result<Vec<String>, AllocError> {
     let mut words = Vec::new(alloc);
     for number in 0..WORDS {
-        let mut word = String::new(alloc);
-        write!(word, "{number:05}{number:010}")?;
-        words.push(word)?;
+        words.push(word(alloc, number)?)?;
     }
     Ok(words)
 }
 
-/// Returns a byte many times over, with a text after it.
-fn many(alloc: Global, byte: u8, text: &str) -> Result<Vec<u8>, AllocError> {
+/// Returns the bytes of the words.
+fn bytes_of(alloc: Global, words: &[String]) -> Result<Vec<&[u8]>, AllocError> {
     let mut bytes = Vec::new(alloc);
-    bytes.resize(LONG, byte)?;
-    bytes.extend_from_slice(text.as_bytes())?;
+    for word in words {
+        bytes.push(word.as_bytes())?;
+    }
     Ok(bytes)
+}
+
+/// Returns whether a clone of a searcher finds the last word at the end of a haystack.
+fn clone_finds_last(searcher: &AhoCorasick, haystack: &[u8]) -> bool {
+    let wanted = Match::must(WORDS - 1, LONG..LONG + DIGITS);
+    match searcher.clone() {
+        Ok(clone) => matches!(clone.try_find(Input::new(haystack)), Ok(Some(m)) if m == wanted),
+        Err(_) => false,
+    }
+}
+
+/// Returns whether that of a searcher does whose states an engine has.
+fn engine_finds_last(
+    alloc: Global,
+    engine: Option<AhoCorasickKind>,
+    patterns: &[&[u8]],
+    haystack: &[u8],
+) -> Result<bool, BuildError> {
+    let mut builder = AhoCorasickBuilder::new();
+    builder.kind(engine);
+    let searcher = builder.build(alloc, patterns)?;
+    Ok(clone_finds_last(&searcher, haystack))
 }
 
 /// A clone of each engine over more than 100,000 states finds the last of the words where it stands after a long front.
 #[test]
 fn many_states(rt: HostRuntime) -> Result<(), Fail> {
     let words = words(rt.alloc())?;
-    let patterns: Vec<&[u8]> = words
-        .iter()
-        .map(|word| word.as_bytes())
-        .collect(rt.alloc())?;
-    let last = words.last().map_or("", |word| word.as_str());
-    let haystack = many(rt.alloc(), b'x', last)?;
+    let patterns = bytes_of(rt.alloc(), &words)?;
+    let last = patterns.last().copied().unwrap_or(&[]);
+    let haystack = many(rt.alloc(), b'x', LONG, last)?;
     for engine in ENGINES {
-        let mut builder = AhoCorasickBuilder::new();
-        let searcher = builder.kind(engine).build(rt.alloc(), &patterns)?;
-        let found = searcher.clone()?.try_find(Input::new(&haystack))?;
-        let found = found.map(|m| (m.pattern().as_usize(), m.start()));
-        same_by(&rt, found, Some((WORDS - 1, LONG)), &engine);
+        assert!(rt;
+            engine_finds_last(rt.alloc(), engine, &patterns, &haystack)?,
+            "{engine:?}"
+        );
     }
     Ok(())
 }
@@ -62,69 +90,81 @@ fn many_states(rt: HostRuntime) -> Result<(), Fail> {
 /// What each match is exchanged for.
 const TEXT: &str = "bc";
 
-/// Returns a text in which a closure exchanged each match.
-fn exchanged_text(alloc: Global, searcher: &AhoCorasick, haystack: &str) -> Result<String, Fail> {
+/// Returns whether bytes are what more than a million matches are exchanged for, and nothing else.
+fn are_exchanged(bytes: &[u8]) -> bool {
+    let mut pairs = bytes.chunks(2);
+    bytes.len() == 2 * LONG && pairs.all(|pair| pair == TEXT.as_bytes())
+}
+
+/// Returns whether a list exchanges each match in bytes.
+fn list_exchanges(
+    alloc: Global,
+    searcher: &AhoCorasick,
+    haystack: &[u8],
+) -> Result<bool, ReplaceError>
+    requires { length searcher.now.built.patterns ≡ 1 }
+{
+    let bytes = searcher.try_replace_all_bytes(alloc, haystack, &[TEXT.as_bytes()])?;
+    Ok(are_exchanged(&bytes))
+}
+
+/// Returns whether a closure exchanges each match in a text.
+fn closure_exchanges_text(
+    alloc: Global,
+    searcher: &AhoCorasick,
+    haystack: &str,
+) -> Result<bool, ReplaceError> {
     let mut text = String::new(alloc);
     searcher.try_replace_all_with(haystack, &mut text, |_, _, destination| {
         destination.push_str(TEXT).is_ok()
     })?;
-    Ok(text)
+    Ok(are_exchanged(text.as_bytes()))
 }
 
-/// Returns bytes in which a closure exchanged each match.
-fn exchanged_bytes(
+/// Returns whether a closure exchanges each match in bytes.
+fn closure_exchanges_bytes(
     alloc: Global,
     searcher: &AhoCorasick,
     haystack: &[u8],
-) -> Result<Vec<u8>, Fail> {
+) -> Result<bool, ReplaceError> {
     let mut bytes = Vec::new(alloc);
     searcher.try_replace_all_with_bytes(haystack, &mut bytes, |_, _, destination| {
         destination.extend_from_slice(TEXT.as_bytes()).is_ok()
     })?;
-    Ok(bytes)
+    Ok(are_exchanged(&bytes))
 }
 
-/// Returns what is written of a stream in which a closure exchanged each match.
-fn exchanged_stream(
+/// Returns whether a closure exchanges each match in a stream.
+fn closure_exchanges_stream(
     alloc: Global,
     searcher: &AhoCorasick,
     stream: &[u8],
-) -> Result<Written<Global>, Fail> {
+) -> Result<bool, StreamError> {
     let (mut reader, mut writer) = (Bytes::new(stream), Written::new(alloc));
     let exchange = |_: &Match, _: &[u8], writer: &mut Written<Global>| {
         writer.write_some(TEXT.as_bytes())?;
         Ok(())
     };
     searcher.try_stream_replace_all_with(alloc, &mut reader, &mut writer, exchange)?;
-    Ok(writer)
+    Ok(are_exchanged(writer.bytes()))
 }
 
-/// Tests that a text has what more than a million matches are exchanged for, and nothing else.
-fn compare_exchanged(exchanged: &[u8]) -> Result<(), Fail> {
-    let mut pairs = exchanged.chunks(2);
-    if exchanged.len() == 2 * LONG && pairs.all(|pair| pair == TEXT.as_bytes()) {
-        return Ok(());
-    }
-    Err(Fail::new(format_args!("{} bytes", exchanged.len())))
+/// Returns whether more than a million matches are exchanged for two bytes each: by a list and by closures, in memory and in a
+/// stream.
+fn exchange_all(alloc: Global, haystack: &str) -> Result<[bool; 4], Fail> {
+    let searcher = AhoCorasick::new(alloc, &[b"a"])?;
+    Ok([
+        list_exchanges(alloc, &searcher, haystack.as_bytes())?,
+        closure_exchanges_bytes(alloc, &searcher, haystack.as_bytes())?,
+        closure_exchanges_text(alloc, &searcher, haystack)?,
+        closure_exchanges_stream(alloc, &searcher, haystack.as_bytes())?,
+    ])
 }
 
-/// More than a million matches that are exchanged for two bytes each, by a list and by closures.
 #[test]
 fn many_matches(rt: HostRuntime) -> Result<(), Fail> {
-    let alloc = rt.alloc();
-    let haystack = many(alloc, b'a', "")?;
-    let searcher = AhoCorasick::new(alloc, &[b"a"])?;
-    compare_exchanged(&searcher.try_replace_all_bytes(alloc, &haystack, &[TEXT.as_bytes()])?)?;
-    compare_exchanged(&exchanged_bytes(alloc, &searcher, &haystack)?)?;
-    let text = exchanged_text(alloc, &searcher, str::from_utf8(&haystack)?)?;
-    compare_exchanged(text.as_bytes())
-}
-
-/// The same in a stream.
-#[test]
-fn many_matches_of_a_stream(rt: HostRuntime) -> Result<(), Fail> {
-    let stream = many(rt.alloc(), b'a', "")?;
-    let searcher = AhoCorasick::new(rt.alloc(), &[b"a"])?;
-    let written = exchanged_stream(rt.alloc(), &searcher, &stream)?;
-    compare_exchanged(written.bytes())
+    let haystack = many(rt.alloc(), b'a', LONG, b"")?;
+    let exchanged = exchange_all(rt.alloc(), str::from_utf8(&haystack)?)?;
+    assert_eq!(rt; exchanged, [true; 4]);
+    Ok(())
 }

@@ -1,38 +1,49 @@
 //! Writers that fail or take little.
-use super::devices::{Drops, Narrow};
-use super::{Ending, INPUT, STREAMED, WRITTEN};
+use super::{Ending, INPUT, STREAMED, WRITTEN, ends_with};
 use crate::fault::Fault;
-use crate::run::{Outcome, run};
-use crate::tests::same_by;
-use ac_search::{Bytes, FromRead, IntoWrite, Source};
-use std::alloc::Global;
+use crate::run::Outcome;
+use crate::tests::devices::Device;
+use std::alloc::{AllocError, Global};
+use std::process::Abort;
 use std::test::Fail;
 
-/// Runs into a writer that takes one byte a call.
-fn run_into<R: Source>(
+/// Tests how a run on these bytes ends whose reader gives so many bytes a call, and whose writer takes one a call and after
+/// so many fails or takes none; and what the writer holds then.
+fn writes_until(
+    rt: &impl Abort,
     alloc: Global,
     words: &[&str],
-    reader: &mut R,
-    narrow: Narrow<'_>,
-) -> Ending {
-    run(alloc, words, reader, &mut IntoWrite::new(narrow))
+    (given, piece): (&[u8], usize),
+    fails: bool,
+    end: (Ending, &[u8]),
+) -> Result<(), AllocError> {
+    let mut from = Device::giving(alloc, given)?;
+    from.piece = piece;
+    let mut into = Device::taking(alloc)?;
+    into.piece = 1;
+    into.room = end.1.len();
+    into.fails = fails;
+    ends_with(rt, alloc, words, &mut from, &mut into, end);
+    Ok(())
 }
+
+/// The input, all at once.
+const WHOLE: (&[u8], usize) = (INPUT, usize::MAX);
 
 #[test]
 fn a_failed_write_is_reported(rt: HostRuntime) -> Result<(), Fail> {
     for &(words, wanted) in WRITTEN.iter().chain(STREAMED) {
         for room in 0..wanted.len() {
-            for (fails, fault) in [(true, Fault::Io), (false, Fault::WriteZero)] {
-                let mut held = Vec::new(rt.alloc());
-                let narrow = Narrow {
-                    held: &mut held,
-                    room,
-                    fails,
-                };
-                let ending = run_into(rt.alloc(), words, &mut Bytes::new(INPUT), narrow);
-                same_by(&rt, ending, Err(fault), &room);
-                same_by(&rt, held.as_slice(), &wanted[..room], &room);
-            }
+            let taken = &wanted[..room];
+            writes_until(&rt, rt.alloc(), words, WHOLE, true, (Err(Fault::Io), taken))?;
+            writes_until(
+                &rt,
+                rt.alloc(),
+                words,
+                WHOLE,
+                false,
+                (Err(Fault::WriteZero), taken),
+            )?;
         }
     }
     Ok(())
@@ -41,19 +52,8 @@ fn a_failed_write_is_reported(rt: HostRuntime) -> Result<(), Fail> {
 #[test]
 fn short_reads_and_writes_change_nothing(rt: HostRuntime) -> Result<(), Fail> {
     for &(words, wanted) in WRITTEN.iter().chain(STREAMED) {
-        let mut held = Vec::new(rt.alloc());
-        let mut reader = FromRead::new(Drops {
-            left: INPUT,
-            fails: false,
-        });
-        let narrow = Narrow {
-            held: &mut held,
-            room: wanted.len(),
-            fails: true,
-        };
-        let ending = run_into(rt.alloc(), words, &mut reader, narrow);
-        same_by(&rt, ending, Ok(Outcome::Found), &words);
-        same_by(&rt, held.as_slice(), wanted, &words);
+        let end = (Ok(Outcome::Found), wanted);
+        writes_until(&rt, rt.alloc(), words, (INPUT, 1), true, end)?;
     }
     Ok(())
 }
@@ -61,16 +61,8 @@ fn short_reads_and_writes_change_nothing(rt: HostRuntime) -> Result<(), Fail> {
 /// A writer that fails isn't asked to write nothing.
 #[test]
 fn an_empty_text_is_written_by_no_call(rt: HostRuntime) -> Result<(), Fail> {
-    let mut held = Vec::new(rt.alloc());
-    let narrow = Narrow {
-        held: &mut held,
-        room: 0,
-        fails: true,
-    };
-    let mut reader = Bytes::new(b"abab".as_slice());
     let words = ["replace", "std", "noncontiguous", "ab", ""];
-    let ending = run_into(rt.alloc(), &words, &mut reader, narrow);
-    same_by(&rt, ending, Ok(Outcome::Found), &words);
-    assert!(rt; held.is_empty());
+    let end = (Ok(Outcome::Found), b"".as_slice());
+    writes_until(&rt, rt.alloc(), &words, (b"abab", usize::MAX), true, end)?;
     Ok(())
 }

@@ -1,16 +1,15 @@
 //! Calls in heaps of rising size, which refuse each request that they have no room for.
-use super::builds::{KINDS, STARTS, SearcherBuild, SearcherTrial};
-use super::{Call, SENTENCE, Trial, WORDS, try_each};
-use crate::tests::same_by;
+use super::builds::{KINDS, STARTS, SearcherBuild};
+use super::{Call, Room, SENTENCE, Trial, WORDS, try_each};
 use ac_search::AhoCorasickKind::{ContiguousNFA, DFA, NoncontiguousNFA};
 use ac_search::MatchKind::{LeftmostFirst, LeftmostLongest, Standard};
 use ac_search::nfa::{contiguous, noncontiguous};
 use ac_search::{
-    AhoCorasick, AhoCorasickKind, Input, Match, MatchError, MatchKind, OverlappingState, StartKind,
-    dfa,
+    AhoCorasick, AhoCorasickKind, BuildError, Input, Match, MatchError, MatchKind,
+    OverlappingState, StartKind, dfa,
 };
 use linked_list_allocator::LocalHeap;
-use std::alloc::{AllocError, Global};
+use std::alloc::{AllocError, Allocator, Global};
 use std::test::Fail;
 
 /// What a heap gives out is a multiple of so many bytes.
@@ -22,40 +21,43 @@ const PART: usize = 64;
 /// Up to how many heaps are tried: the last one has some megabytes.
 const HEAPS: usize = 700;
 
-/// Returns the size of the first of greater and greater heaps in which a call has room. It gives all memory back in each.
-fn least_room<C: Call>(alloc: Global, call: &C) -> Result<usize, Fail> {
-    let mut size = STEP;
-    for _ in 0..HEAPS {
-        let heap = LocalHeap::new(alloc, size)?;
-        let has_room = call.has_room(&heap)?;
-        if heap.used() != 0 {
-            return Err(Fail::new("memory is kept"));
-        }
-        if has_room {
-            return Ok(size);
-        }
-        size = size.saturating_add(STEP.max(size / PART));
+/// Returns what a call comes to in a heap of a size, to which it gives all memory back.
+fn room_in_heap(alloc: Global, size: usize, call: Call) -> Room {
+    let Ok(heap) = LocalHeap::new(alloc, size) else {
+        return Room::Other("no heap");
+    };
+    let room = call.room(alloc, &heap);
+    if heap.used() == 0 {
+        room
+    } else {
+        Room::Other("memory is kept")
     }
-    Err(Fail::new("no heap has room"))
 }
 
-/// Tries a call in heaps.
-#[derive(Drop)]
-struct Heaps;
-
-impl Trial for Heaps {
-    fn tries<C: Call>(&mut self, alloc: Global, call: &C) -> Result<(), Fail> {
-        if least_room(alloc, call)? == STEP {
-            return Err(Fail::new("other memory is taken"));
+/// Returns the size of the first of greater and greater heaps in which a call lacks no memory, and what it comes to there.
+fn least_room(alloc: Global, call: Call) -> (usize, Room) {
+    let mut size = STEP;
+    for _ in 0..HEAPS {
+        match room_in_heap(alloc, size, call) {
+            Room::Lacking => size = size.saturating_add(STEP.max(size / PART)),
+            room => return (size, room),
         }
-        Ok(())
+    }
+    (size, Room::Lacking)
+}
+
+/// Tries a call in heaps: it wants more than the least one.
+pub(super) fn room_in_some_heap(alloc: Global, call: Call) -> Room {
+    match least_room(alloc, call) {
+        (STEP, Room::Enough) => Room::Other("other memory is taken"),
+        (_, room) => room,
     }
 }
 
 /// A call wants memory up to the size at which it has room, and gives all back.
 #[test]
 fn each_call_has_room_in_some_heap(rt: HostRuntime) -> Result<(), Fail> {
-    try_each(rt.alloc(), &mut Heaps)
+    try_each(rt.alloc(), Trial::Heaps)
 }
 
 /// A heap in which each searcher over the words has room.
@@ -79,113 +81,158 @@ pub(super) fn filled<'h>(
     Ok(pieces)
 }
 
-/// The pattern and the end of a match, if there is one: of the find, and of the last one of the walk, of the listing
-/// and of three calls of a search by a state. A leftmost kind refuses the last two.
-type Answers = [Option<(usize, usize)>; 4];
+/// The pattern and the end of a match, if there is one.
+type End = Option<(usize, usize)>;
 
-/// Each match kind, and what a searcher over the words answers in the sentence.
-const ANSWERS: [(MatchKind, Answers); 3] = [
-    (
-        Standard,
-        [Some((2, 3)), Some((2, 25)), Some((1, 31)), Some((2, 14))],
-    ),
-    (LeftmostFirst, [Some((0, 6)), Some((0, 28)), None, None]),
-    (LeftmostLongest, [Some((0, 6)), Some((1, 31)), None, None]),
-];
+/// Returns what a searcher over the words answers in the sentence: the find, and the last match of the walk, of the listing
+/// and of three calls of a search by a state. A leftmost kind refuses the last two.
+fn wanted_of(kind: MatchKind) -> [End; 4] {
+    match kind {
+        Standard => [Some((2, 3)), Some((2, 25)), Some((1, 31)), Some((2, 14))],
+        LeftmostFirst => [Some((0, 6)), Some((0, 28)), None, None],
+        LeftmostLongest => [Some((0, 6)), Some((1, 31)), None, None],
+    }
+}
+
+/// Returns whether an answer is a match with this pattern and this end, or is none.
+fn is_end(answer: Result<Option<Match>, MatchError>, wanted: End) -> bool {
+    match (answer, wanted) {
+        (Ok(Some(m)), Some((pattern, end))) => {
+            m.pattern().as_usize() == pattern && m.end() == end
+        }
+        (Ok(None) | Err(_), None) => true,
+        _ => false,
+    }
+}
+
+/// Returns the last match of the walk.
+fn last_of_walk<A: Allocator + Clone>(
+    searcher: &AhoCorasick<A>,
+) -> Result<Option<Match>, MatchError> {
+    let matches = searcher.try_find_iter(Input::of_text(SENTENCE))?;
+    Ok(matches.last())
+}
+
+/// Returns the last match of the listing.
+fn last_of_listing<A: Allocator + Clone>(
+    searcher: &AhoCorasick<A>,
+) -> Result<Option<Match>, MatchError> {
+    let items = searcher.try_find_overlapping_iter(Input::of_text(SENTENCE))?;
+    Ok(items.last())
+}
 
 /// Returns the third match that a search by a state gives.
-fn third_of(
-    searcher: &AhoCorasick<&LocalHeap>,
-    input: Input<'_>,
-) -> Result<Option<Match>, MatchError> {
-    let mut state = OverlappingState::start();
+fn third_of<A: Allocator + Clone>(searcher: &AhoCorasick<A>) -> Result<Option<Match>, MatchError> {
+    let (input, mut state) = (Input::of_text(SENTENCE), OverlappingState::start());
     searcher.try_find_overlapping(input, &mut state)?;
     searcher.try_find_overlapping(input, &mut state)?;
     searcher.try_find_overlapping(input, &mut state)?;
     Ok(state.get_match())
 }
 
-/// Returns what a searcher answers in the sentence.
-fn answers_of(searcher: &AhoCorasick<&LocalHeap>) -> Result<Answers, Fail> {
+/// Returns whether a searcher over the words answers what it has to in the sentence.
+fn answers<A: Allocator + Clone>(searcher: &AhoCorasick<A>) -> bool {
     let input = Input::of_text(SENTENCE);
-    let found = searcher.try_find(input)?;
-    if !searcher.is_match(input) {
-        return Err(Fail::new("no match"));
-    }
-    let listed = match searcher.try_find_overlapping_iter(input) {
-        Ok(items) => items.last(),
-        Err(_) => None,
+    let [found, last, listed, third] = wanted_of(searcher.match_kind());
+    let Ok(answer) = searcher.try_find(input) else {
+        return false;
     };
-    let last = searcher.try_find_iter(input)?.last();
-    let third = third_of(searcher, input).unwrap_or(None);
-    Ok([found, last, listed, third].map(|m| m.map(|m| (m.pattern().as_usize(), m.end()))))
+    searcher.is_match(input)
+        && is_end(Ok(answer), found)
+        && is_end(last_of_walk(searcher), last)
+        && is_end(last_of_listing(searcher), listed)
+        && is_end(third_of(searcher), third)
 }
 
-/// Tests that a searcher over the words and its clone answer what they have to where no memory is left, and take none.
-fn searches_take_nothing(
+/// Returns whether a clone of a searcher answers the same, and takes nothing of a heap.
+fn clone_answers<A: Allocator + Clone>(heap: &LocalHeap, searcher: &AhoCorasick<A>) -> bool {
+    let used = heap.used();
+    match searcher.clone() {
+        Ok(clone) => answers(&clone) && heap.used() == used,
+        Err(_) => false,
+    }
+}
+
+/// Returns whether a searcher over the words and its clone answer what they have to where no memory is left, and take none.
+fn searches_take_nothing<A: Allocator + Clone>(
     alloc: Global,
     heap: &LocalHeap,
-    searcher: &AhoCorasick<&LocalHeap>,
-) -> Result<(), Fail> {
+    searcher: &AhoCorasick<A>,
+) -> Result<bool, AllocError> {
     let used = heap.used();
     let pieces = filled(alloc, heap)?;
-    let clone = searcher.clone()?;
-    let answers = [answers_of(searcher)?, answers_of(&clone)?];
+    let is_right = answers(searcher) && clone_answers(heap, searcher);
     drop(pieces);
-    for (kind, wanted) in ANSWERS {
-        if kind == searcher.match_kind() && answers != [wanted, wanted] {
-            return Err(Fail::new(format_args!("{kind:?}: {answers:?}")));
-        }
-    }
-    if heap.used() != used {
-        return Err(Fail::new("a clone or a search takes memory"));
-    }
-    Ok(())
+    Ok(is_right && heap.used() == used)
 }
 
-/// Returns which engine serves, and how many bytes the searcher takes and says that it takes.
-fn sizes_of(alloc: Global, build: &SearcherBuild) -> Result<(AhoCorasickKind, usize, usize), Fail> {
-    let heap = LocalHeap::new(alloc, AMPLE)?;
-    let Some(searcher) = build.build(&heap)? else {
-        return Err(Fail::new("no room"));
-    };
-    let (used, usage) = (heap.used(), searcher.memory_usage());
-    if used < usage || used > usage.saturating_add(BESIDE) {
-        return Err(Fail::new(format_args!("{used} bytes for {usage}")));
-    }
-    searches_take_nothing(alloc, &heap, &searcher)?;
-    Ok((searcher.kind(), used, usage))
+/// What a searcher takes.
+#[derive(Clone, Copy)]
+struct Taken {
+    /// Which engine serves.
+    engine: AhoCorasickKind,
+    /// How many bytes it takes.
+    used: usize,
+    /// How many it says that it takes.
+    usage: usize,
+    /// Whether these agree, and searches take nothing more.
+    is_right: bool,
 }
 
-/// Returns which engine serves, how many bytes the searcher takes, and how many its build and its finds need.
-fn needs_of(
+/// Returns what a searcher takes that is in a heap.
+fn taken_by<A: Allocator + Clone>(
     alloc: Global,
-    engine: Option<AhoCorasickKind>,
-    (kind, pattern, end): (MatchKind, usize, usize),
+    heap: &LocalHeap,
+    searcher: &AhoCorasick<A>,
+) -> Result<Taken, AllocError> {
+    let (used, usage) = (heap.used(), searcher.memory_usage());
+    let agree = usage <= used && used <= usage.saturating_add(BESIDE);
+    Ok(Taken {
+        engine: searcher.kind(),
+        used,
+        usage,
+        is_right: searches_take_nothing(alloc, heap, searcher)? && agree,
+    })
+}
+
+/// Builds a searcher in a heap, and returns what it takes.
+fn taken_by_build(alloc: Global, build: SearcherBuild) -> Result<Taken, BuildError> {
+    let heap = LocalHeap::new(alloc, AMPLE)?;
+    let searcher = build.build(&heap)?;
+    Ok(taken_by(alloc, &heap, &searcher)?)
+}
+
+/// Returns whether a searcher takes what the one takes for which the engine is named that it chooses, and is built in as
+/// little room.
+fn takes_one_engine(
+    alloc: Global,
+    kind: MatchKind,
     start_kind: StartKind,
-) -> Result<(AhoCorasickKind, usize, usize), Fail> {
+) -> Result<bool, BuildError> {
     let build = SearcherBuild {
-        engine,
+        engine: None,
         kind,
         start_kind,
     };
-    let (chosen, used, _) = sizes_of(alloc, &build)?;
-    let wanted = (pattern, end);
-    Ok((
-        chosen,
-        used,
-        least_room(alloc, &SearcherTrial { build, wanted })?,
-    ))
+    let chosen = taken_by_build(alloc, build)?;
+    let named_build = SearcherBuild {
+        engine: Some(chosen.engine),
+        kind,
+        start_kind,
+    };
+    let named = taken_by_build(alloc, named_build)?;
+    let (room, _) = least_room(alloc, Call::Searcher(build));
+    let (named_room, _) = least_room(alloc, Call::Searcher(named_build));
+    let takes_as_much = chosen.engine == named.engine && chosen.used == named.used;
+    Ok(takes_as_much && chosen.is_right && named.is_right && room == named_room)
 }
 
 /// A searcher takes what its engine takes, and nothing for the engines that it doesn't choose, while it is built neither.
 #[test]
 fn a_searcher_takes_one_engine(rt: HostRuntime) -> Result<(), Fail> {
-    for row in KINDS {
+    for kind in KINDS {
         for start_kind in STARTS {
-            let chosen = needs_of(rt.alloc(), None, row, start_kind)?;
-            let named = needs_of(rt.alloc(), Some(chosen.0), row, start_kind)?;
-            same_by(&rt, chosen, named, &(row, start_kind));
+            assert!(rt; takes_one_engine(rt.alloc(), kind, start_kind)?, "{kind:?}");
         }
     }
     Ok(())
@@ -208,55 +255,88 @@ const USAGES: [(AhoCorasickKind, StartKind, usize); 4] = [
 /// How many bytes more it says: where lists begin and end.
 const BOUNDS: usize = 64;
 
+/// Returns how many bytes a searcher says that it takes by an engine.
+fn usage_by(
+    alloc: Global,
+    engine: AhoCorasickKind,
+    start_kind: StartKind,
+) -> Result<Option<usize>, BuildError> {
+    let build = SearcherBuild {
+        engine: Some(engine),
+        kind: Standard,
+        start_kind,
+    };
+    let taken = taken_by_build(alloc, build)?;
+    Ok(if taken.is_right {
+        Some(taken.usage)
+    } else {
+        None
+    })
+}
+
 #[test]
 fn engines_take_what_their_layout_needs(rt: HostRuntime) -> Result<(), Fail> {
     for (engine, start_kind, wanted) in USAGES {
-        let build = SearcherBuild {
-            engine: Some(engine),
-            kind: Standard,
-            start_kind,
-        };
-        let (_, _, usage) = sizes_of(rt.alloc(), &build)?;
-        let more = usage.saturating_sub(wanted);
-        if usage < wanted || more > BOUNDS {
-            return Err(Fail::new(format_args!("{engine:?}, {start_kind:?}: {usage}")));
-        }
+        let usage = usage_by(rt.alloc(), engine, start_kind)?.unwrap_or(0);
+        assert!(rt;
+            wanted <= usage && usage <= wanted.saturating_add(BOUNDS),
+            "{engine:?}: {usage}"
+        );
     }
     Ok(())
 }
 
-/// Tests that a heap has as many bytes in use as before, and that at least so many of another one are.
-fn takes(heap: &LocalHeap, used: usize, other: &LocalHeap, least: usize) -> Result<(), Fail> {
-    if heap.used() != used || other.used() < least {
-        return Err(Fail::new(format_args!("{} and {}", heap.used(), other.used())));
-    }
-    Ok(())
+/// Returns whether what was built takes at least so many bytes of a heap, of another one no more than were taken, and gives
+/// them back.
+fn takes<E: Drop>(
+    built: Result<E, BuildError>,
+    least: usize,
+    heap: &LocalHeap,
+    taken: usize,
+    other: &LocalHeap,
+) -> bool {
+    let is_right = built.is_ok() && heap.used() >= least && other.used() == taken;
+    drop(built);
+    is_right && heap.used() == 0
+}
+
+/// Returns whether a DFA that is built in a heap from an automaton in another one takes its own memory.
+fn dfa_takes_its_own<'h>(
+    nfa: &noncontiguous::NFA<&'h LocalHeap>,
+    heap: &'h LocalHeap,
+    other: &LocalHeap,
+) -> bool {
+    let taken = other.used();
+    let built = dfa::Builder::new().build_from_noncontiguous(heap, nfa);
+    takes(built, 13 * 16 * 4, heap, taken, other)
+}
+
+/// Returns whether a contiguous NFA does.
+fn contiguous_takes_its_own<'h>(
+    nfa: &noncontiguous::NFA<&'h LocalHeap>,
+    heap: &'h LocalHeap,
+    other: &LocalHeap,
+) -> bool {
+    let taken = other.used();
+    let built = contiguous::Builder::new().build_from_noncontiguous(heap, nfa);
+    takes(built, 84 * 4, heap, taken, other)
+}
+
+/// Returns whether both do, where the automaton is in the first heap.
+fn engines_take_their_own<'h>(
+    first: &'h LocalHeap,
+    second: &'h LocalHeap,
+) -> Result<bool, BuildError> {
+    let nfa = noncontiguous::NFA::new(first, &WORDS)?;
+    Ok(dfa_takes_its_own(&nfa, second, first) && contiguous_takes_its_own(&nfa, second, first))
 }
 
 /// A DFA that is built from an automaton takes memory of the allocator that the build is handed, and none of the automaton's.
-#[test]
-fn a_dfa_takes_memory_of_its_own(rt: HostRuntime) -> Result<(), Fail> {
-    let first = LocalHeap::new(rt.alloc(), AMPLE)?;
-    let second = LocalHeap::new(rt.alloc(), AMPLE)?;
-    let nfa = noncontiguous::NFA::new(&first, &WORDS)?;
-    let used = first.used();
-    let dfa = dfa::Builder::new().build_from_noncontiguous(&second, &nfa)?;
-    takes(&first, used, &second, 13 * 16 * 4)?;
-    drop(dfa);
-    same_by(&rt, second.used(), 0, &"no engine");
-    Ok(())
-}
-
 /// So does a contiguous NFA.
 #[test]
-fn a_contiguous_nfa_takes_memory_of_its_own(rt: HostRuntime) -> Result<(), Fail> {
+fn engines_take_memory_of_their_own(rt: HostRuntime) -> Result<(), Fail> {
     let first = LocalHeap::new(rt.alloc(), AMPLE)?;
     let second = LocalHeap::new(rt.alloc(), AMPLE)?;
-    let nfa = noncontiguous::NFA::new(&first, &WORDS)?;
-    let used = first.used();
-    let contiguous = contiguous::Builder::new().build_from_noncontiguous(&second, &nfa)?;
-    takes(&first, used, &second, 84 * 4)?;
-    drop(contiguous);
-    same_by(&rt, second.used(), 0, &"no engine");
+    assert!(rt; engines_take_their_own(&first, &second)?);
     Ok(())
 }

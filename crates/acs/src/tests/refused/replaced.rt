@@ -1,12 +1,11 @@
 //! Replacements by lists and by closures.
-ghost use Rattle.std.specs.Prelude.{◌≡◌, None};
+ghost use Rattle.std.specs.Prelude.{◌≡◌, None, length};
 ghost use Rattle.ac_search.specs.Built.{replace_refusal};
 
-use super::{Call, SENTENCE, Trial, WORDS, unless_memory};
+use super::{Call, Room, SENTENCE, Trial, WORDS};
 use ac_search::MatchKind::LeftmostFirst;
-use ac_search::{AhoCorasick, AhoCorasickBuilder, Match};
-use std::alloc::{AllocError, Allocator, Global};
-use std::fmt::Debug;
+use ac_search::{AhoCorasick, AhoCorasickBuilder, BuildError, Match, ReplaceError};
+use std::alloc::{Allocator, Global};
 use std::test::Fail;
 
 /// What the words are exchanged for.
@@ -19,7 +18,7 @@ const EXCHANGED: &str = "zend the z to the zendage";
 
 /// The forms in which a replacement is called.
 #[derive(Clone, Copy)]
-enum Form {
+pub(super) enum Form {
     Text,
     Bytes,
     TryText,
@@ -28,90 +27,69 @@ enum Form {
 
 const FORMS: [Form; 4] = [Form::Text, Form::Bytes, Form::TryText, Form::TryBytes];
 
-/// Returns whether there is a text, which then has to be the one with the words exchanged.
-fn has_text<A: Allocator>(replaced: Option<String<A>>) -> Result<bool, Fail> {
-    match replaced {
-        Some(text) if text.as_str() == EXCHANGED => Ok(true),
-        Some(_) => Err(Fail::new("another text")),
-        None => Ok(false),
+/// Exchanges the words in text by a list.
+fn text_room<A: Allocator>(searcher: &AhoCorasick, alloc: A) -> Room
+    requires supported { replace_refusal searcher.now.built ≡ None }
+    requires words { length searcher.now.built.patterns ≡ 3 }
+{
+    match searcher.replace_all(alloc, SENTENCE, &TEXTS) {
+        Ok(text) => Room::of_answer(text.as_str() == EXCHANGED),
+        Err(_) => Room::Lacking,
     }
 }
 
-/// The same of bytes.
-fn has_bytes<A: Allocator>(replaced: Option<Vec<u8, A>>) -> Result<bool, Fail> {
-    match replaced {
-        Some(bytes) if bytes.as_slice() == EXCHANGED.as_bytes() => Ok(true),
-        Some(_) => Err(Fail::new("other bytes")),
-        None => Ok(false),
+/// The same in bytes.
+fn bytes_room<A: Allocator>(searcher: &AhoCorasick, alloc: A) -> Room
+    requires supported { replace_refusal searcher.now.built ≡ None }
+    requires words { length searcher.now.built.patterns ≡ 3 }
+{
+    match searcher.replace_all_bytes(alloc, SENTENCE.as_bytes(), &BYTES) {
+        Ok(bytes) => Room::of_answer(bytes.as_slice() == EXCHANGED.as_bytes()),
+        Err(_) => Room::Lacking,
     }
 }
 
-/// A replacement by a list, whose searcher takes the usual memory.
-#[derive(Drop)]
-struct ByList {
-    alloc: Global,
-    form: Form,
+/// The same in text, by the form that refuses what a searcher doesn't support.
+fn tried_text_room<A: Allocator>(searcher: &AhoCorasick, alloc: A) -> Room
+    requires words { length searcher.now.built.patterns ≡ 3 }
+{
+    match searcher.try_replace_all(alloc, SENTENCE, &TEXTS) {
+        Ok(text) => Room::of_answer(text.as_str() == EXCHANGED),
+        Err(e) => Room::of_refusal(e == ReplaceError::Memory),
+    }
 }
 
-impl Call for ByList {
-    fn has_room<A: Allocator + Clone>(&self, alloc: A) -> Result<bool, Fail> {
-        let Ok(searcher) = AhoCorasick::new(self.alloc, &WORDS) else {
-            return Ok(false);
-        };
-        match self.form {
-            Form::Text => has_text(searcher.replace_all(alloc, SENTENCE, &TEXTS).ok()),
-            Form::Bytes => {
-                let replaced = searcher.replace_all_bytes(alloc, SENTENCE.as_bytes(), &BYTES);
-                has_bytes(replaced.ok())
-            }
-            Form::TryText => {
-                has_text(unless_memory(searcher.try_replace_all(alloc, SENTENCE, &TEXTS))?)
-            }
-            Form::TryBytes => {
-                let replaced = searcher.try_replace_all_bytes(alloc, SENTENCE.as_bytes(), &BYTES);
-                has_bytes(unless_memory(replaced)?)
-            }
-        }
+/// The same in bytes, by that form.
+fn tried_bytes_room<A: Allocator>(searcher: &AhoCorasick, alloc: A) -> Room
+    requires words { length searcher.now.built.patterns ≡ 3 }
+{
+    match searcher.try_replace_all_bytes(alloc, SENTENCE.as_bytes(), &BYTES) {
+        Ok(bytes) => Room::of_answer(bytes.as_slice() == EXCHANGED.as_bytes()),
+        Err(e) => Room::of_refusal(e == ReplaceError::Memory),
     }
 }
 
 /// What stands before a replacement by a closure.
 const BEFORE: &str = "pre";
 
-/// What stands where the text after the first, the second and the third call of the closure finds no memory.
-const STOPPED: [&str; 3] = ["pre", "pre the ", "pre the  to the "];
-
-/// What stands after the replacement.
-const REMOVED: &str = "pre the  to the age";
-
-/// A replacement by a closure that appends nothing.
-///
-/// It takes the usual memory, and none of the allocator that `has_room` is handed: a bound on a closure can't name a
-/// destination in other memory yet. So it is tried where requests are refused one by one, and in no heap.
-#[derive(Drop)]
-struct ByClosure {
-    alloc: Global,
-    form: Form,
-}
-
-/// Returns whether a replacement had room, which left this after so many calls of its closure.
-fn has_removed(had_room: bool, calls: usize, left: &[u8]) -> Result<bool, Fail> {
-    let wanted = if had_room {
-        Some(&REMOVED)
-    } else {
-        STOPPED.get(calls.saturating_sub(1))
+/// Returns what a replacement by a closure comes to that appends nothing, by whether it had room, how often the closure was
+/// called and what is left. Where there was no room, that is a beginning of what it has to be.
+fn removed_room(has_room: bool, calls: usize, left: &[u8]) -> Room {
+    let wanted = match (has_room, calls) {
+        (true, 3) => "pre the  to the age",
+        (false, 0 | 1) => "pre",
+        (false, 2) => "pre the ",
+        (false, 3) => "pre the  to the ",
+        _ => return Room::Other("another number of calls"),
     };
-    match wanted {
-        Some(text) if text.as_bytes() == left && (calls == 3 || !had_room) => Ok(had_room),
-        _ => Err(Fail::new("another beginning")),
+    if wanted.as_bytes() != left {
+        return Room::Other("another beginning");
     }
-}
-
-/// Returns whether a replacement had memory.
-fn had_memory<E: From<AllocError> + PartialEq + Debug + Drop>(
-    answer: Result<(), E>,
-) -> Result<bool, Fail> {
-    Ok(unless_memory(answer)?.is_some())
+    if has_room {
+        Room::Enough
+    } else {
+        Room::Lacking
+    }
 }
 
 /// Counts a call of a closure, which appends nothing.
@@ -120,68 +98,134 @@ fn counted(calls: &mut usize) -> bool {
     true
 }
 
+/// Returns whether a replacement had room, or none where it reported something else.
+fn had_room(replaced: Result<(), ReplaceError>) -> Option<bool> {
+    match replaced {
+        Ok(()) => Some(true),
+        Err(ReplaceError::Memory) => Some(false),
+        Err(ReplaceError::Match(_)) => None,
+    }
+}
+
 /// Removes the words by a closure, in text: by the form that refuses what a searcher doesn't support, or by the other.
-fn removes_in_text(searcher: &AhoCorasick, alloc: Global, tries: bool) -> Result<bool, Fail>
+fn removes_in_text(searcher: &AhoCorasick, text: &mut String, tries: bool) -> Room
     requires { replace_refusal searcher.now.built ≡ None }
 {
-    let Ok(mut text) = String::from_str(alloc, BEFORE) else {
-        return Ok(false);
-    };
     let mut calls = 0;
     let exchange = |_: &Match, _: &str, _: &mut String| counted(&mut calls);
     let had_room = if tries {
-        had_memory(searcher.try_replace_all_with(SENTENCE, &mut text, exchange))?
+        had_room(searcher.try_replace_all_with(SENTENCE, text, exchange))
     } else {
-        had_memory(searcher.replace_all_with(SENTENCE, &mut text, exchange))?
+        Some(searcher.replace_all_with(SENTENCE, text, exchange).is_ok())
     };
-    has_removed(had_room, calls, text.as_bytes())
+    match had_room {
+        Some(had_room) => removed_room(had_room, calls, text.as_bytes()),
+        None => Room::Other("another cause"),
+    }
 }
 
 /// The same in bytes.
-fn removes_in_bytes(searcher: &AhoCorasick, alloc: Global, tries: bool) -> Result<bool, Fail>
+fn removes_in_bytes(searcher: &AhoCorasick, bytes: &mut Vec<u8>, tries: bool) -> Room
     requires { replace_refusal searcher.now.built ≡ None }
 {
-    let Ok(mut bytes) = Vec::from_slice(alloc, BEFORE.as_bytes()) else {
-        return Ok(false);
-    };
-    let (sentence, mut calls) = (SENTENCE.as_bytes(), 0);
+    let mut calls = 0;
+    let sentence = SENTENCE.as_bytes();
     let exchange = |_: &Match, _: &[u8], _: &mut Vec<u8>| counted(&mut calls);
     let had_room = if tries {
-        had_memory(searcher.try_replace_all_with_bytes(sentence, &mut bytes, exchange))?
+        had_room(searcher.try_replace_all_with_bytes(sentence, bytes, exchange))
     } else {
-        had_memory(searcher.replace_all_with_bytes(sentence, &mut bytes, exchange))?
+        Some(
+            searcher
+                .replace_all_with_bytes(sentence, bytes, exchange)
+                .is_ok(),
+        )
     };
-    has_removed(had_room, calls, &bytes)
+    match had_room {
+        Some(had_room) => removed_room(had_room, calls, bytes),
+        None => Room::Other("another cause"),
+    }
 }
 
-impl Call for ByClosure {
-    fn has_room<A: Allocator + Clone>(&self, _: A) -> Result<bool, Fail> {
+/// Makes the text, and removes the words from it.
+fn text_removed_room(searcher: &AhoCorasick, alloc: Global, tries: bool) -> Room
+    requires { replace_refusal searcher.now.built ≡ None }
+{
+    match String::from_str(alloc, BEFORE) {
+        Ok(mut text) => removes_in_text(searcher, &mut text, tries),
+        Err(_) => Room::Lacking,
+    }
+}
+
+/// The same in bytes.
+fn bytes_removed_room(searcher: &AhoCorasick, alloc: Global, tries: bool) -> Room
+    requires { replace_refusal searcher.now.built ≡ None }
+{
+    match Vec::from_slice(alloc, BEFORE.as_bytes()) {
+        Ok(mut bytes) => removes_in_bytes(searcher, &mut bytes, tries),
+        Err(_) => Room::Lacking,
+    }
+}
+
+impl Form {
+    /// Exchanges the words by a list, by a searcher that is built.
+    fn exchange<A: Allocator>(self, searcher: &AhoCorasick, alloc: A) -> Room
+        requires supported { replace_refusal searcher.now.built ≡ None }
+        requires words { length searcher.now.built.patterns ≡ 3 }
+    {
+        match self {
+            Form::Text => text_room(searcher, alloc),
+            Form::Bytes => bytes_room(searcher, alloc),
+            Form::TryText => tried_text_room(searcher, alloc),
+            Form::TryBytes => tried_bytes_room(searcher, alloc),
+        }
+    }
+
+    /// Returns what a replacement by a list comes to, whose searcher takes the usual memory.
+    pub(super) fn list_room<A: Allocator>(self, usual: Global, alloc: A) -> Room {
+        match AhoCorasick::new(usual, &WORDS) {
+            Ok(searcher) => self.exchange(&searcher, alloc),
+            Err(e) => Room::of_refusal(e == BuildError::Memory),
+        }
+    }
+
+    /// Removes the words by a closure, by a searcher that is built.
+    fn remove(self, searcher: &AhoCorasick, alloc: Global) -> Room
+        requires { replace_refusal searcher.now.built ≡ None }
+    {
+        match self {
+            Form::TryText => text_removed_room(searcher, alloc, true),
+            Form::TryBytes => bytes_removed_room(searcher, alloc, true),
+            Form::Text => text_removed_room(searcher, alloc, false),
+            Form::Bytes => bytes_removed_room(searcher, alloc, false),
+        }
+    }
+
+    /// Returns what a replacement by a closure comes to that appends nothing.
+    ///
+    /// It takes the usual memory alone: a bound on a closure can't name a destination in other memory yet. So it is tried
+    /// where requests are refused one by one, and in no heap.
+    pub(super) fn closure_room(self, usual: Global) -> Room {
         let mut builder = AhoCorasickBuilder::new();
         builder.match_kind(LeftmostFirst);
-        let Ok(searcher) = builder.build(self.alloc, &WORDS) else {
-            return Ok(false);
-        };
-        match self.form {
-            Form::TryText => removes_in_text(&searcher, self.alloc, true),
-            Form::TryBytes => removes_in_bytes(&searcher, self.alloc, true),
-            Form::Text => removes_in_text(&searcher, self.alloc, false),
-            Form::Bytes => removes_in_bytes(&searcher, self.alloc, false),
+        match builder.build(usual, &WORDS) {
+            Ok(searcher) => self.remove(&searcher, usual),
+            Err(e) => Room::of_refusal(e == BuildError::Memory),
         }
     }
 }
 
 /// Tries each replacement by a list.
-pub(super) fn try_each<T: Trial>(alloc: Global, trial: &mut T) -> Result<(), Fail> {
+pub(super) fn try_each(alloc: Global, trial: Trial) -> Result<(), Fail> {
     for form in FORMS {
-        trial.tries(alloc, &ByList { alloc, form })?;
+        trial.tries(alloc, Call::List(form))?;
     }
     Ok(())
 }
 
 /// Tries each replacement by a closure.
-pub(super) fn try_each_closure<T: Trial>(alloc: Global, trial: &mut T) -> Result<(), Fail> {
+pub(super) fn try_each_closure(alloc: Global, trial: Trial) -> Result<(), Fail> {
     for form in FORMS {
-        trial.tries(alloc, &ByClosure { alloc, form })?;
+        trial.tries(alloc, Call::Closure(form))?;
     }
     Ok(())
 }
