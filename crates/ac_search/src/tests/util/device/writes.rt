@@ -1,7 +1,7 @@
 //! Of writers: what they take of a piece, and what they hold after a failure.
 use super::{BROKEN, Outcome, write};
 use crate::tests::same;
-use ac_util::device::{IntoWrite, Written};
+use ac_util::device::{IntoWrite, WriteError, Written};
 use std::alloc::{AllocError, Global};
 use std::io;
 use std::io::{ErrorKind, Write};
@@ -106,4 +106,13 @@ fn writes_go_through(rt: HostRuntime) -> Result<(), Fail> {
     let between = [Ok(1), Ok(1), BROKEN, Ok(1), Ok(0)];
     assert!(rt; are_written(alloc, Some(2), between)?);
     Ok(())
+}
+
+#[test]
+fn a_failed_write_is_an_io_error(rt: HostRuntime) {
+    let broken = io::Error::from(ErrorKind::BrokenPipe);
+    let failed = WriteError::Io(broken).into_error().kind();
+    same(&rt, failed, ErrorKind::BrokenPipe);
+    let nothing = WriteError::WriteZero.into_error().kind();
+    same(&rt, nothing, ErrorKind::WriteZero);
 }
