@@ -56,11 +56,12 @@ pub mod StreamExchanging
 pub mod StreamFirst
 pub mod StreamGiving
 pub mod StreamKeeping
+pub mod StreamKnown
+pub mod StreamNext
 pub mod StreamReserves
-pub mod StreamLoop
 pub mod StreamPast
+pub mod StreamReads
 pub mod StreamRefusals
-pub mod StreamText
 pub mod StreamFilling
 pub mod StreamReplacing
 pub mod StreamTexts

@@ -1,6 +1,7 @@
 -- What a walk gives that reads each byte once, and that it goes on from there.
 use Rattle.std.proofs.Common.{◌≡◌, ◌⊎◌, ℕ, ◌+◌, ◌-◌, ◌*◌, ◌<◌, ◌≤◌, ◌==◌, if◌then◌else◌, Bool, true, false, List, [], ◌∷◌, length, drop, map, slice_get, slice_index, refl, ap, sym, ◌∙◌, subst, arith, Option, None, Some, IfSome, MatchOption, option_map, inl, inr}
 use Rattle.std.proofs.Math.Seq.{drop-length}
+use Rattle.std.proofs.lemmas.Bool.{false≢true}
 use Rattle.std.proofs.lemmas.Grind.{common_steps}
 use Rattle.ac_util.specs.Prelude.{step}
 use Rattle.ac_util.specs.Commits.{standing_at, IsPickIn, IsSearchFor, Commits, Anything, StandsAfter}
@@ -11,13 +12,39 @@ use Rattle.ac_util.proofs.NodePicks.{match-picked}
 use Rattle.ac_util.proofs.Onward.{byte_at}
 use Rattle.ac_automaton.specs.Prelude.{AutomatonView, Cursor, matches_of, place_of, plain_of, search_of, step_of, Work}
 use Rattle.ac_automaton.specs.Commits.{chain_at, ending_in, IsCommit, reads_on}
-use Rattle.ac_automaton.specs.Onward.{chain_of, HasCounted, HasGiven, HasStopped, in_hand, IsCounted, IsGiven, IsOnward, IsRestBefore, MayTakeFrom, pending, TakesKnown, tried}
+use Rattle.ac_automaton.specs.Onward.{chain_of, first_given, GivesAt, GivesOf, HasCounted, HasGiven, HasStopped, in_hand, IsCounted, IsGiven, IsOnward, IsRestBefore, MayTakeFrom, pending, TakesKnown, tried}
 use Rattle.ac_automaton.specs.declared.automaton.commits.ChainMatch.{ChainMatch}
 use Rattle.ac_automaton.specs.declared.automaton.commits.Commit.{Commit}
 use Rattle.ac_automaton.specs.declared.automaton.onward.ChainRest.{ChainRest}
 use Rattle.ac_automaton.specs.declared.automaton.onward.Given.{Given}
 use Rattle.ac_automaton.proofs.OnwardSteps.{on-leftmost, on-some}
 use Rattle.ac_automaton.proofs.PastGives.{ends-there, goes-known, goes-on, has-bytes, known-high, known-numbered, known-onward, known-within, never-dead, next, numbered, onward, pattern-within, picks-first, picks-known, rest-within}
+
+-- of a state with matches the first one is given, and of one without none
+pub first-of : (start : ℕ) (listed : List ℕ) {p : ℕ} → slice_get listed 0 ≡ Some p
+    → Some (record { pattern = p; rest = 0; next = start; chain = None }) ≡ first_given start listed
+first-of start listed first =
+    sym (ap (option_map (λ (p : ℕ). record { pattern = p; rest = 0; next = start; chain = None })) first)
+
+pub none-of : (start : ℕ) (listed : List ℕ) → listed ≡ [] → None ≡ first_given start listed
+none-of start listed none = sym (ap (first_given start) none)
+
+-- what is given, whether it stops at a match or not
+pub gives-at : (a : AutomatonView) (chains : List (List ChainMatch)) (start s : ℕ) (stops : Bool) {result : Option Given}
+    → (stops ≡ true → result ≡ first_given start (a.listed s)) → (stops ≡ false → GivesOf a chains s result)
+    → GivesAt a chains start stops s result
+gives-at a chains start s true first past = first refl
+gives-at a chains start s false first past = past refl
+
+pub gives-past : (a : AutomatonView) (chains : List (List ChainMatch)) (start s : ℕ) (stops : Bool) (result : Option Given)
+    → stops ≡ false → GivesAt a chains start stops s result → GivesOf a chains s result
+gives-past a chains start s true result past gives = absurd (false≢true (sym past))
+gives-past a chains start s false result past gives = gives
+
+pub gives-first : (a : AutomatonView) (chains : List (List ChainMatch)) (start s : ℕ) (stops : Bool) (result : Option Given)
+    → stops ≡ true → GivesAt a chains start stops s result → result ≡ first_given start (a.listed s)
+gives-first a chains start s true result first gives = gives
+gives-first a chains start s false result first gives = absurd (false≢true first)
 
 module _ (a : AutomatonView) (on : reads_on a.built ≡ true) (chains : List (List ChainMatch)) where
   -- a state with matches gives the first of them, and goes on at the start

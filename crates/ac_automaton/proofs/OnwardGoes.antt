@@ -16,6 +16,7 @@ module _ {A M : Type 0} {seen : A → AutomatonView} {old known : Onward A M} {s
   -- it is lawful still
   pub goes-lawful : IsLawful seen known
   goes-lawful = subst (IsLawful seen) (sym same) (record {
+    past = may.lawful.past;
     on = may.lawful.on;
     starts = may.lawful.starts;
     commits = may.lawful.commits;
@@ -33,7 +34,7 @@ module _ {A M : Type 0} {seen : A → AutomatonView} {old known : Onward A M} {s
 
   -- or has read on
   module _ (takes : TakesNext seen old None known.rest) {read : Onward A M} (keeps : KeepsOnward known read) {new_tape : Taped}
-      {new_counts : Counts} (reads : ReadsOn (seen known.automaton.now) tape span.end known.cursor known.byte counts read.cursor read.byte
+      {new_counts : Counts} (reads : ReadsOn (seen known.core.automaton.now) tape span.end known.cursor known.byte counts read.cursor read.byte
       new_tape new_counts) where
     abbrev moved : Onward A M
     moved = record old { cursor = read.cursor; byte = read.byte; rest = read.rest; budget = read.budget }
@@ -41,15 +42,15 @@ module _ {A M : Type 0} {seen : A → AutomatonView} {old known : Onward A M} {s
     read-is : read ≡ moved
     read-is = keeps ∙ ap (λ (o : Onward A M). record o { cursor = read.cursor; byte = read.byte; rest = read.rest; budget = read.budget }) same
 
-    reads-so : ReadsOn (seen old.automaton.now) tape span.end old.cursor old.byte counts read.cursor read.byte new_tape new_counts
+    reads-so : ReadsOn (seen old.core.automaton.now) tape span.end old.cursor old.byte counts read.cursor read.byte new_tape new_counts
     reads-so =
-        subst (λ (o : Onward A M). ReadsOn (seen o.automaton.now) tape span.end o.cursor o.byte counts read.cursor read.byte new_tape
+        subst (λ (o : Onward A M). ReadsOn (seen o.core.automaton.now) tape span.end o.cursor o.byte counts read.cursor read.byte new_tape
         new_counts) same reads
 
     stopped : (start : ℕ)
-        → IsOnwardIn (seen old.automaton.now) tape span.start span.end start
-        (pending (seen old.automaton.now).built old.commits.now.chains old.rest) old.cursor old.byte counts
-        → HasStopped (seen old.automaton.now) (search_in seen old tape.bytes span.start span.end) start read.cursor read.byte
+        → IsOnwardIn (seen old.core.automaton.now) tape span.start span.end start
+        (pending (seen old.core.automaton.now).built old.core.commits.now.chains old.rest) old.cursor old.byte counts
+        → HasStopped (seen old.core.automaton.now) (search_in seen old tape.bytes span.start span.end) start read.cursor read.byte
         (work_of new_tape new_counts)
     stopped start onward =
         reads-so.stops span.start start
@@ -59,7 +60,7 @@ module _ {A M : Type 0} {seen : A → AutomatonView} {old known : Onward A M} {s
     pub may-give : MayGive seen read
     may-give =
         subst (MayGive seen) (sym read-is) (record {
-          lawful = record { on = may.lawful.on; starts = may.lawful.starts; commits = may.lawful.commits; skips = may.lawful.skips; needle = may.lawful.needle };
+          lawful = record { past = may.lawful.past; on = may.lawful.on; starts = may.lawful.starts; commits = may.lawful.commits; skips = may.lawful.skips; needle = may.lawful.needle };
           bytes = tape.bytes;
           low = span.start;
           end = span.end;
@@ -89,16 +90,16 @@ module _ {A M : Type 0} {seen : A → AutomatonView} {old read : Onward A M} {ta
     where
       Gives : Onward A M → List ℕ → Type 0
       Gives o bs =
-          IsOnward (seen o.automaton.now) (search_in seen o bs low end) start [] read.cursor read.byte (work_of new_tape new_counts)
-          → HasGiven (seen o.automaton.now) o.commits.now.chains (search_in seen o bs low end) start found new.rest new.cursor new.byte
+          IsOnward (seen o.core.automaton.now) (search_in seen o bs low end) start [] read.cursor read.byte (work_of new_tape new_counts)
+          → HasGiven (seen o.core.automaton.now) o.core.commits.now.chains (search_in seen o bs low end) start found new.rest new.cursor new.byte
           (work_of new_tape last_counts)
 
   module _ (reads : ReadsToStart seen old tape end counts false read new_tape new_counts) where
     -- it may give what comes next
-    pub only-may : IsLawful seen old → MayReadOn (seen old.automaton.now) tape end old.cursor old.byte counts → MayGive seen read
+    pub only-may : IsLawful seen old → MayReadOn (seen old.core.automaton.now) tape end old.cursor old.byte counts → MayGive seen read
     only-may lawful may =
         subst (MayGive seen) (sym keeps) (record {
-          lawful = record { on = lawful.on; starts = lawful.starts; commits = lawful.commits; skips = lawful.skips; needle = lawful.needle };
+          lawful = record { past = lawful.past; on = lawful.on; starts = lawful.starts; commits = lawful.commits; skips = lawful.skips; needle = lawful.needle };
           bytes = tape.bytes;
           low = may.low;
           end = end;

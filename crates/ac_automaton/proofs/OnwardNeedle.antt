@@ -147,7 +147,7 @@ module _ (a : AutomatonView) (on : reads_on a.built ≡ true) {needle : List ℕ
                 node = [];
                 stands = record {
                   there = subst (λ (u : List ℕ). a.stands No state (Some u)) node-is onward.stands.there;
-                  after = after-start a.built.kind patterns (on-leftmost a.built on) (on-some a.built on) (from q m.end)
+                  after = after-start a.built.kind patterns (from q m.end)
                       (record { free = refl; ordered = high; inside = inside; same = refl });
                   hand = tt;
                 };

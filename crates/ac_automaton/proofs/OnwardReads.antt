@@ -6,7 +6,6 @@ use Rattle.std.proofs.lemmas.Option.{IfSome_then}
 use Rattle.ac_automaton.specs.Util.{Counts, more_looks, No, Node, Taped, usize_max}
 use Rattle.ac_automaton.specs.Prelude.{AutomatonView, Cursor, looks_of, search_of, work_of}
 use Rattle.ac_automaton.specs.Automata.{IsState, StepsTo, Tells}
-use Rattle.ac_automaton.specs.Commits.{reads_on}
 use Rattle.ac_automaton.specs.declared.automaton.onward.Onward.{Onward}
 use Rattle.ac_automaton.specs.Onward.{HasStopped, IsOnward, IsOnwardIn, MayReadOn, MayReadUpTo, ReadsFurther, ReadsOn, ReadsUpTo, TriesByte}
 use Rattle.ac_automaton.proofs.OnwardSteps.{comes-hand, comes-none, ComesOnward, may-then, reads-then, stops-end, stops-hand}
@@ -113,22 +112,21 @@ module _ {a : AutomatonView} {tape : Taped} {end : ℕ} {cursor : Cursor} {hand 
 
 -- the automaton of a walk that was changed
 pub seen-same : {A M : Type 0} (seen : A → AutomatonView) (new moved : Onward A M) → new ≡ moved
-    → seen new.automaton.now ≡ seen moved.automaton.now
-seen-same {A} {M} seen new moved same = ap (λ (o : Onward A M). seen o.automaton.now) same
+    → seen new.core.automaton.now ≡ seen moved.core.automaton.now
+seen-same {A} {M} seen new moved same = ap (λ (o : Onward A M). seen o.core.automaton.now) same
 
 -- the byte in hand is tried, by the state to which it leads
-module _ {a : AutomatonView} {cursor : Cursor} {hand : Option ℕ} {counts : Counts} (on : reads_on a.built ≡ true)
-    (one_or_two : (a.most ≡ 1) ⊎ (a.most ≡ 2)) {byte : ℕ} (next : ℕ) (is : hand ≡ Some byte) {new_counts : Counts}
+module _ {a : AutomatonView} {cursor : Cursor} {hand : Option ℕ} {counts : Counts} (one_or_two : (a.most ≡ 1) ⊎ (a.most ≡ 2)) {byte : ℕ} (next : ℕ) (is : hand ≡ Some byte) {new_counts : Counts}
     (looks-so : (u : Node) → a.stands No cursor.state u → new_counts ≡ more_looks (looks_of a.most a.built No u byte) counts)
     (steps : StepsTo a No cursor.state byte next) (dead : Bool) (tells : Tells a next dead (λ u. u ≡ None)) where
   pub tries-on : dead ≡ false → TriesByte a cursor hand counts true (record { state = next; at = cursor.at + 1 }) None new_counts
   tries-on alive tape low end start inside onward =
-      (comes-hand {tape = tape} {end = end} {counts = counts} on one_or_two inside next is looks-so steps dead tells alive refl refl).along
+      (comes-hand {tape = tape} {end = end} {counts = counts} one_or_two inside next is looks-so steps dead tells alive refl refl).along
       low start onward
 
   pub tries-dead : dead ≡ true → TriesByte a cursor hand counts false cursor hand new_counts
   tries-dead gone tape low end start inside onward =
-      (stops-hand {tape = tape} {end = end} {counts = counts} on one_or_two inside next is looks-so steps dead tells gone).stops
+      (stops-hand {tape = tape} {end = end} {counts = counts} one_or_two inside next is looks-so steps dead tells gone).stops
       low start onward
 
 -- without one it stands where it stood

@@ -11,7 +11,7 @@ use Rattle.ac_automaton.specs.Commits.{reads_on}
 use Rattle.ac_automaton.specs.Onward.{IsCounted, IsOnward, StandsBy}
 use Rattle.ac_util.specs.Prefilters.Skip.{FirstOf}
 use Rattle.ac_util.specs.Commits.{StandsAfter}
-use Rattle.ac_automaton.proofs.OnwardSteps.{IsToTry, on-leftmost, on-some}
+use Rattle.ac_automaton.proofs.OnwardSteps.{IsToTry}
 use Rattle.ac_automaton.proofs.Skipping.{step-stays}
 
 module _ (a : AutomatonView) (on : reads_on a.built ≡ true) {first : List ℕ} (skips : Skips a.wants_prefilter a.built (FirstOf first))
@@ -33,7 +33,7 @@ module _ (a : AutomatonView) (on : reads_on a.built ≡ true) {first : List ℕ}
       let other = false_from_ne_true (list_any (begins_with a.built.ignores_case byte) a.built.patterns)
       (λ f. none (at + n) (omega arith) (omega arith) (begin.begins byte f)) in
       subst (λ (k : ℕ). StandsAfter a.built.kind (plain_of a.built) q [] [] k) (omega arith)
-      (after-byte a.built.kind (plain_of a.built) (on-leftmost a.built on) (on-some a.built on) q [] [] [] (at + n)
+      (after-byte a.built.kind (plain_of a.built) q [] [] [] (at + n)
       (record { free = refl; ordered = ordered; inside = inside; same = refl }) here (omega arith)
       (step-stays a.built begin.some byte other))
 

@@ -1,5 +1,5 @@
 -- A walk that reads each byte once, one byte on.
-use Rattle.std.proofs.Common.{◌≡◌, ◌⊎◌, ℕ, zero, suc, ◌+◌, ◌-◌, ◌*◌, ◌<◌, ◌≤◌, ◌==◌, if◌then◌else◌, Bool, true, false, List, [], ◌∷◌, ◌++◌, length, slice_index, refl, ap, sym, ◌∙◌, subst, arith, Option, None, Some, MatchOption}
+use Rattle.std.proofs.Common.{◌≡◌, ◌≢◌, ◌⊎◌, ℕ, zero, suc, ◌+◌, ◌-◌, ◌*◌, ◌<◌, ◌≤◌, ◌==◌, if◌then◌else◌, Bool, true, false, List, [], ◌∷◌, ◌++◌, length, slice_index, refl, ap, sym, ◌∙◌, subst, arith, Option, None, Some, MatchOption}
 use Rattle.std.proofs.lemmas.Bool.{and_parts, false≢true, ltb-true}
 use Rattle.std.proofs.lemmas.List.{length-map}
 use Rattle.std.proofs.lemmas.Grind.{common_steps}
@@ -110,8 +110,17 @@ to-try {hand = hand} onward = record {
   ordered = onward.ordered;
 }
 
-module _ (a : AutomatonView) (on : reads_on a.built ≡ true) (one_or_two : (a.most ≡ 1) ⊎ (a.most ≡ 2)) (bytes : List ℕ)
-    (low end start : ℕ) (inside : end ≤ length bytes) where
+-- so says a test whether a state is dead
+pub lives-by : (a : AutomatonView) (s : ℕ) {dead : Bool} → Tells a s dead (λ u. u ≡ None) → dead ≡ false
+    → (u : Node) → a.stands No s u → u ≢ None
+lives-by a s tells alive u there gone = false≢true (sym alive ∙ (tells No u there).1 gone)
+
+pub dies-by : (a : AutomatonView) (s : ℕ) {dead : Bool} → Tells a s dead (λ u. u ≡ None) → dead ≡ true
+    → (u : Node) → a.stands No s u → u ≡ None
+dies-by a s tells gone u there = (tells No u there).0 gone
+
+module _ (a : AutomatonView) (one_or_two : (a.most ≡ 1) ⊎ (a.most ≡ 2)) (bytes : List ℕ) (low end start : ℕ)
+    (inside : end ≤ length bytes) where
   abbrev q : Search
   q = search_of a.built No bytes low end
 
@@ -151,7 +160,7 @@ module _ (a : AutomatonView) (on : reads_on a.built ≡ true) (one_or_two : (a.m
         node = u;
         stands = record {
           there = there;
-          after = after-byte a.built.kind (plain_of a.built) (on-leftmost a.built on) (on-some a.built on) q [] node u cursor.at
+          after = after-byte a.built.kind (plain_of a.built) q [] node u cursor.at
               (search-is ordered) onward.stands.after takes.before_end
               (ap (λ (b : ℕ). step_of a.built No (Some node) b) (sym takes.comes) ∙ leads);
           hand = tt;
@@ -183,23 +192,23 @@ module _ (a : AutomatonView) (on : reads_on a.built ≡ true) (one_or_two : (a.m
       begun = onward.begun;
     }
 
-    -- so a test tells whether it is dead that it leads to
-    module _ {next : ℕ} (steps : StepsTo a No cursor.state byte next) (dead : Bool) (tells : Tells a next dead (λ u. u ≡ None)) where
+    -- by the state to which it leads
+    module _ {next : ℕ} (steps : StepsTo a No cursor.state byte next) where
       leads-to : a.stands No next (step_of a.built No (Some node) byte)
       leads-to = steps (Some node) onward.stands.there
 
-      pub onward-next : dead ≡ false
+      pub onward-next : ((u : Node) → a.stands No next u → u ≢ None)
           → IsOnward a q start [] (record { state = next; at = cursor.at + 1 }) None (record { place = taken.place; counts = new_counts })
       onward-next alive = by (step_of a.built No (Some node) byte) refl
         where
           by : (u : Node) → step_of a.built No (Some node) byte ≡ u
               → IsOnward a q start [] (record { state = next; at = cursor.at + 1 }) None (record { place = taken.place; counts = new_counts })
-          by None e = absurd (false≢true (sym alive ∙ (tells No _ leads-to).1 e))
+          by None e = absurd (alive _ leads-to e)
           by (Some u) e = onward-byte next u (subst (a.stands No next) e leads-to) e
 
-      pub stops-next : dead ≡ true
+      pub stops-next : ((u : Node) → a.stands No next u → u ≡ None)
           → HasStopped a q start cursor (Some byte) (record { place = taken.place; counts = new_counts })
-      stops-next gone = stops-byte ((tells No _ leads-to).0 gone)
+      stops-next gone = stops-byte (gone _ leads-to)
 
 -- it reads on no further at the end of the span
 pub stops-end : {a : AutomatonView} {bytes : List ℕ} {low end start : ℕ} {cursor : Cursor} {work : Work}
@@ -301,8 +310,7 @@ module _ {a : AutomatonView} {tape : Taped} {end : ℕ} {cursor : Cursor} {hand 
   }
 
   -- with a byte in hand, by the state to which that leads
-  module _ (on : reads_on a.built ≡ true) (one_or_two : (a.most ≡ 1) ⊎ (a.most ≡ 2)) (inside : end ≤ length tape.bytes)
-      {byte : ℕ} (next : ℕ) (is : hand ≡ Some byte) {new_counts : Counts}
+  module _ (one_or_two : (a.most ≡ 1) ⊎ (a.most ≡ 2)) (inside : end ≤ length tape.bytes) {byte : ℕ} (next : ℕ) (is : hand ≡ Some byte) {new_counts : Counts}
       (looks-so : (u : Node) → a.stands No cursor.state u → new_counts ≡ more_looks (looks_of a.most a.built No u byte) counts)
       (steps : StepsTo a No cursor.state byte next) (dead : Bool) (tells : Tells a next dead (λ u. u ≡ None)) where
     onward-so : (low start : ℕ) → IsOnwardIn a tape low end start [] cursor hand counts
@@ -317,8 +325,8 @@ module _ {a : AutomatonView} {tape : Taped} {end : ℕ} {cursor : Cursor} {hand 
       along = λ low start onward.
           subst (λ (c : Counts). IsOnward a (search_of a.built No tape.bytes low end) start [] here None (work_of tape c)) (sym counted)
           (subst (λ (k : Cursor). IsOnward a (search_of a.built No tape.bytes low end) start [] k None (work_of tape new_counts)) (sym moved)
-          (onward-next a on one_or_two tape.bytes low end start inside (to-try (onward-so low start onward))
-          (takes-hand (onward-so low start onward)) looks-so steps dead tells alive));
+          (onward-next a one_or_two tape.bytes low end start inside (to-try (onward-so low start onward))
+          (takes-hand (onward-so low start onward)) looks-so steps (lives-by a next tells alive)));
     }
 
     pub stops-hand : dead ≡ true → ReadsOn a tape end cursor hand counts cursor hand tape new_counts
@@ -326,6 +334,6 @@ module _ {a : AutomatonView} {tape : Taped} {end : ℕ} {cursor : Cursor} {hand 
       bytes = refl;
       stops = λ low start onward.
           subst (λ (h : Option ℕ). HasStopped a (search_of a.built No tape.bytes low end) start cursor h (work_of tape new_counts)) (sym is)
-          (stops-next a on one_or_two tape.bytes low end start inside (to-try (onward-so low start onward))
-          (takes-hand (onward-so low start onward)) looks-so steps dead tells gone);
+          (stops-next a one_or_two tape.bytes low end start inside (to-try (onward-so low start onward))
+          (takes-hand (onward-so low start onward)) looks-so steps (dies-by a next tells gone));
     }

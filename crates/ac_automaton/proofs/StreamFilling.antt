@@ -1,37 +1,25 @@
 -- The search of a stream: how it begins, how its buffer is filled and makes room, and what is seen then.
-use Rattle.std.proofs.Common.{◌≡◌, ℕ, ◌+◌, ◌-◌, ◌<◌, ◌≤◌, Bool, true, false, List, [], ◌++◌, length, length-append, length-drop, take, drop, max, inl, inr, refl, ap, sym, subst, ◌∙◌, arith, Some, None, append_assoc, if◌then◌else◌, not, slice_range, rules}
-use Rattle.std.specs.Prelude.{⊤}
+use Rattle.std.proofs.Common.{◌≡◌, ℕ, ◌+◌, ◌-◌, ◌<◌, ◌≤◌, Bool, List, [], ◌++◌, length, length-append, length-drop, take, drop, max, inl, inr, refl, ap, sym, subst, ◌∙◌, arith, Some, None, append_assoc, if◌then◌else◌, not, slice_range, rules}
 use Rattle.std.proofs.lemmas.List.{append-nil, drop-append-le, drop-drop, length-take-le}
 use Rattle.std.proofs.Math.Seq.{take-add}
 use Rattle.std.proofs.lemmas.Grind.{common_steps}
 use Rattle.ac_util.specs.Commits.{StandsAfter}
-use Rattle.ac_automaton.specs.Util.{buffer_len, Built, from, is_leftmost, IsSettledBy, longest_len, Node, pick, Span, stream_refusal, stream_result, usize_max}
+use Rattle.ac_automaton.specs.Util.{buffer_len, Built, from, is_leftmost, IsSettledBy, longest_len, Node, pick, stream_refusal, stream_result, usize_max}
 use Rattle.ac_util.proofs.Longer.{pick-extended}
 use Rattle.ac_util.proofs.Spans.{take_drop_take}
 use Rattle.ac_util.proofs.Walks.{next-none, walk_after-None}
-use Rattle.ac_automaton.specs.Prelude.{Ended, Failed, HasGivenSettled, in_memory, Inside, IsStreaming, most_kept, Open, Phase, plain_of, Reaches, Scan, initial_stream, StandsPast, stream_from, Streaming}
+use Rattle.ac_automaton.specs.Prelude.{Ended, Failed, HasGivenSettled, Inside, IsStreaming, most_kept, Open, Phase, plain_of, initial_stream, StandsPast, stream_from, Streaming}
 use Rattle.ac_util.proofs.Onward.{after-start}
 use Rattle.ac_automaton.specs.Onward.{pending}
 use Rattle.ac_automaton.specs.Streams.{HasGiven}
 use Rattle.ac_automaton.specs.declared.automaton.commits.ChainMatch.{ChainMatch}
-use Rattle.ac_automaton.proofs.OnwardSteps.{on-some}
-use Rattle.ac_automaton.proofs.ReadOn.{at-start}
-use Rattle.ac_automaton.proofs.StreamRefusals.{allowed-some, past-on}
-use Rattle.ac_automaton.proofs.StreamText.{picked-nothing, scan}
+use Rattle.ac_automaton.proofs.StreamRefusals.{allowed-some}
+use Rattle.ac_automaton.proofs.StreamFirst.{picked-nothing}
 
 -- a search over a stream of which nothing was read
 module _ (stands : ℕ → Node → Type 0) (chains : List (List ChainMatch)) (built : Built) (allowed : stream_refusal built ≡ None) (start : ℕ)
     (starts : stands start (Some [])) (buffer : List ℕ) (long : length buffer ≡ buffer_len built.patterns)
     (small : length buffer < 9223372036854775808) where
-  abbrev scan-begun : Scan
-  scan-begun = scan stands (λ s. []) built 1 false
-
-  abbrev whole-begun : Span
-  whole-begun = record { start = 0; end = 0 }
-
-  nothing-begun : pick built.kind (record (stream_from built [] 0) { high = 0 }) ≡ None
-  nothing-begun = picked-nothing stands (λ s. []) built 1 false (allowed-some built allowed) built.kind [] 0
-
   begun : IsStreaming stands chains (record {
     start = start;
     stops = not (is_leftmost built.kind);
@@ -57,21 +45,15 @@ module _ (stands : ℕ → Node → Type 0) (chains : List (List ChainMatch)) (b
     holds = refl;
     within = omega arith;
     read = omega arith;
-    searched = λ standard. record {
-      within = omega arith;
-      onward = omega arith;
-      is_at = at-start scan-begun (in_memory [] whole-begun) 0 starts refl (omega arith);
-      picks = sym nothing-begun;
-      after = tt;
-    };
-    past = λ first. record {
+    past = record {
       node = [];
       there = starts;
       after = λ more last.
-          after-start built.kind (plain_of built) first (on-some built (past-on built allowed first)) (stream_from built more 0)
+          after-start built.kind (plain_of built) (stream_from built more 0)
           (record { free = refl; ordered = omega arith; inside = omega arith; same = refl });
       sound = tt;
       near = tt;
+      first = λ standard. record { left = refl; none = picked-nothing built (allowed-some built allowed) built.kind [] 0 };
     };
     given = record { matches = []; count = refl; end = refl; last = None; walks = λ more last. refl };
     all = λ ended. absurd (cc);
@@ -104,12 +86,8 @@ pub most-kept : (built : Built) (stops : Bool) (longest : ℕ) → stops ≡ not
     → longest ≡ longest_len built.patterns → (if stops then max 1 longest - 1 else longest) ≡ most_kept built
 most-kept built stops longest is long = grind (arith, common_steps)
 
--- what was reached in some bytes is reached in more
-module _ (stands : ℕ → Node → Type 0) (built : Built) (bytes more : List ℕ) (begun : ℕ) where
-  reaches-longer : (state at : ℕ) → Reaches stands built.kind (stream_from built bytes begun) state at
-      → Reaches stands built.kind (stream_from built (bytes ++ more) begun) state at
-  reaches-longer state at r = grind (arith, common_steps)
-
+-- what was given in some bytes is given in more
+module _ (built : Built) (bytes more : List ℕ) (begun : ℕ) where
   given-longer : (phase : Phase) (given : ℕ) → (phase ≡ Ended → ⊥) → HasGiven phase built bytes given begun
       → HasGiven phase built (bytes ++ more) given begun
   given-longer phase given goes_on g = grind (arith, common_steps)
@@ -130,24 +108,25 @@ module _ (stands : ℕ → Node → Type 0) (chains : List (List ChainMatch)) (i
     back-open : v.kept ≤ max i.begun (v.front + i.at - i.reserve)
     back-open = elim inv.back [ inl back ↦ back | inr over ↦ absurd (goes-on over.ended) ]
 
-    -- a leftmost search stands where it did
-    past-then : (phase : Phase) (size : ℕ) → is_leftmost v.built.kind ≡ true
+    -- a search stands where it did
+    past-then : (phase : Phase) (size : ℕ)
         → StandsPast stands chains (record i { buffer = buffer }) (record v { phase = phase; buffer = size })
-    past-then phase size first =
-        let p = inv.past first in
+    past-then phase size =
+        let p = inv.past in
         record {
           node = p.node;
           there = p.there;
           after = λ more last. p.after more (λ ended. absurd (goes-on ended));
           sound = p.sound;
           near = p.near;
+          first = λ standard. record { left = (p.first standard).left; none = (p.first standard).none };
         }
 
     -- in more bytes too
-    past-longer : (n size : ℕ) (more : List ℕ) → is_leftmost v.built.kind ≡ true
+    past-longer : (n size : ℕ) (more : List ℕ)
         → StandsPast stands chains (record i { buffer = buffer; filled = n }) (record v { bytes = v.bytes ++ more; buffer = size })
-    past-longer n size more first =
-        let p = inv.past first in
+    past-longer n size more =
+        let p = inv.past in
         record {
           node = p.node;
           there = p.there;
@@ -157,6 +136,14 @@ module _ (stands : ℕ → Node → Type 0) (chains : List (List ChainMatch)) (i
               (p.after (more ++ others) (λ ended. absurd (goes-on ended)));
           sound = p.sound;
           near = p.near;
+          first = λ standard.
+              let w = inv.within in let c = inv.counted in
+              record {
+                left = (p.first standard).left;
+                none = pick-extended (record (stream_from v.built v.bytes i.begun) { high = v.front + i.at }) more inv.read (omega arith)
+                    v.built.kind
+                    ∙ (p.first standard).none;
+              };
         }
 
     -- and no bytes came: the end was met, or there was a failure
@@ -198,19 +185,8 @@ module _ (stands : ℕ → Node → Type 0) (chains : List (List ChainMatch)) (i
                 ∙ sym (drop-append-le v.front v.bytes more (omega arith));
             within = omega arith;
             read = inv.read;
-            searched = λ standard.
-                let on = inv.searched standard in
-                record {
-                  within = omega arith;
-                  onward = omega arith;
-                  is_at = reaches-longer stands v.built v.bytes more i.begun i.state (v.front + i.at) on.is_at;
-                  picks = on.picks
-                      ∙ sym (pick-extended (record (stream_from v.built v.bytes i.begun) { high = v.front + i.at }) more
-                      on.is_at.onward on.is_at.inside v.built.kind);
-                  after = on.after;
-                };
             past = past-longer (i.filled + n) (length buffer) more;
-            given = given-longer stands v.built v.bytes more i.begun v.phase v.given goes-on inv.given;
+            given = given-longer v.built v.bytes more i.begun v.phase v.given goes-on inv.given;
             all = λ ended. absurd (goes-on ended);
             failed = λ failed. absurd (let no = sym open' ∙ failed in cc);
             few = inv.few;
@@ -256,18 +232,8 @@ module _ (stands : ℕ → Node → Type 0) (chains : List (List ChainMatch)) (i
           holds = holds;
           within = omega arith;
           read = (let r = inv.read in omega arith);
-          searched = λ standard.
-              let on = inv.searched standard in
-              record {
-                within = omega arith;
-                onward = omega arith;
-                is_at = subst (λ (n : ℕ). Reaches stands v.built.kind (stream_from v.built v.bytes i.begun) i.state n) place on.is_at;
-                picks = on.picks
-                    ∙ ap (λ (n : ℕ). pick v.built.kind (record (stream_from v.built v.bytes i.begun) { high = n })) place;
-                after = tt;
-              };
-          past = λ first.
-              let p = inv.past first in
+          past =
+              let p = inv.past in
               record {
                 node = p.node;
                 there = p.there;
@@ -276,6 +242,11 @@ module _ (stands : ℕ → Node → Type 0) (chains : List (List ChainMatch)) (i
                     (pending v.built chains i.rest) p.node n) place (p.after more last);
                 sound = p.sound;
                 near = p.near;
+                first = λ standard. record {
+                  left = (p.first standard).left;
+                  none = sym (ap (λ (n : ℕ). pick v.built.kind (record (stream_from v.built v.bytes i.begun) { high = n })) place)
+                      ∙ (p.first standard).none;
+                };
               };
           given = inv.given;
           all = inv.all;
@@ -321,7 +292,7 @@ pub stream_result-nothing : (built : Built) → stream_refusal built ≡ None �
 stream_result-nothing built allowed =
     walk_after-None built.kind (stream_from built [] 0) None
     (next-none built.kind (stream_from built [] 0) None
-    (picked-nothing (λ s u. ⊤) (λ s. []) built 1 false (allowed-some built allowed) built.kind [] 0))
+    (picked-nothing built (allowed-some built allowed) built.kind [] 0))
 
 -- and nothing to be settled
 pub settled-begun : (built : Built) → stream_refusal built ≡ None → IsSettledBy built.kind built [] 0 0

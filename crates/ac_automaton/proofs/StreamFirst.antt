@@ -1,136 +1,325 @@
--- The search of a stream under Standard gives the first match that it finds, or has searched all that was read.
-use Rattle.std.proofs.Common.{◌≡◌, ◌≢◌, ℕ, ◌+◌, ◌-◌, ◌≤◌, Bool, true, List, ◌++◌, length, length-append, max, refl, ap, sym, subst, ◌∙◌, arith, Option, Some, None, IfSome, rules}
-use Rattle.std.proofs.lemmas.Bool.{false≢true}
-use Rattle.ac_automaton.specs.Util.{is_leftmost, MatchKind, Node, Occurrence, Occurs, order_of, pick, Search, Span, Standard}
+-- The search of a stream under Standard: it gives the first match of the state to which it has come, or has searched all that was
+-- read.
+use Rattle.std.proofs.Common.{◌≡◌, ◌≢◌, ◌⊎◌, cond, ℕ, zero, suc, ◌+◌, ◌-◌, ◌<◌, ◌≤◌, Bool, true, false, List, [], ◌∷◌, ◌++◌, length, length-append, slice_get, slice_index, inl, inr, refl, ap, sym, subst, ◌∙◌, arith, Option, Some, None, IfSome, MatchOption, option_map}
+use Rattle.std.proofs.lemmas.Bool.{cases_lt}
+use Rattle.std.proofs.lemmas.List.{append-nil}
+use Rattle.ac_util.specs.Prelude.{step}
+use Rattle.ac_util.specs.Commits.{StandsAfter}
+use Rattle.ac_automaton.specs.Util.{Built, has_empty, longest_len, MatchKind, No, Node, Occurrence, pattern_of, pick, Search, Standard}
+use Rattle.ac_util.proofs.Beginning.{ends_by, pick-within, within}
 use Rattle.ac_util.proofs.Living.{dead-picked}
 use Rattle.ac_util.proofs.Longer.{pick-extended}
+use Rattle.ac_util.proofs.OneLonger.{pick-empty_some}
+use Rattle.ac_util.proofs.Onward.{after-start, byte_at, step-byte}
+use Rattle.ac_util.proofs.SearchLoop.{pick-found, pick-goes_on}
+use Rattle.ac_util.proofs.Shortest.{longest-most, none-empty}
 use Rattle.ac_util.proofs.Walks.{pick-Occurs}
-use Rattle.ac_automaton.specs.Prelude.{Failed, GivesMatch, HasGivenSettled, HasReadOn, in_memory, Inside, IsAnswered, IsStreaming, kept_from, stream_from, Streaming}
+use Rattle.ac_automaton.specs.Prelude.{AutomatonView, Cursor, Inside, IsStreaming, matches_of, node_at, Phase, place_of, plain_of, StandsPast, step_of, stream_from, Streaming}
+use Rattle.ac_automaton.specs.Onward.{first_given, IsRestBefore, pending}
+use Rattle.ac_automaton.specs.Streams.{streaming_by}
 use Rattle.ac_automaton.specs.declared.automaton.commits.ChainMatch.{ChainMatch}
-use Rattle.ac_automaton.proofs.FindLoop.{picked-final}
-use Rattle.ac_automaton.proofs.ReadOn.{at-start}
-use Rattle.ac_automaton.proofs.StreamGiving.{gives, streams-then}
-use Rattle.ac_automaton.proofs.StreamKeeping.{gives-settled, settles-standard, streams-on}
-use Rattle.ac_automaton.proofs.StreamLoop.{order-by}
+use Rattle.ac_automaton.specs.declared.automaton.onward.ChainRest.{ChainRest}
+use Rattle.ac_automaton.specs.declared.automaton.onward.Given.{Given}
+use Rattle.ac_automaton.proofs.AliveSteps.{byte-is, node-is}
+use Rattle.ac_automaton.proofs.StreamKeeping.{settles-standard}
+use Rattle.ac_automaton.proofs.StreamReads.{at, begun-before, HoldsBack, IsReadOn, none-more, of-search, place, q, Settles, stands-here, stands-there, stops, u, within-buffer, within-bytes}
 use Rattle.ac_automaton.proofs.StreamRefusals.{allowed-some}
-use Rattle.ac_automaton.proofs.StreamText.{At, node_there, picked-nothing, scan}
+use Rattle.ac_automaton.proofs.StreamReserves.{most-back}
 
--- the search of what was read, from where on matches are sought up to a place
-abbrev up_to : Streaming → ℕ → ℕ → Search
-up_to v begun place = record (stream_from v.built v.bytes begun) { high = place }
+-- where a search begins nothing is picked
+pub picked-nothing : (built : Built) → has_empty built ≡ false → (order : MatchKind) (bytes : List ℕ) (begun : ℕ)
+    → pick order (record (stream_from built bytes begun) { high = begun }) ≡ None
+picked-nothing built some order bytes begun = by (pick order q) refl
+  where
+    q : Search
+    q = record (stream_from built bytes begun) { high = begun }
 
--- a search under Standard isn't a leftmost one
-never-leftmost : (kind : MatchKind) → kind ≡ Standard → is_leftmost kind ≡ true → ⊥
-never-leftmost kind standard leftmost = false≢true (sym (ap is_leftmost standard) ∙ leftmost)
+    by : (r : Option Occurrence) → pick order q ≡ r → pick order q ≡ None
+    by None e = e
+    by (Some m) e =
+        let o = pick-Occurs order q m e in
+        let long = none-empty built.patterns m.pattern some o.numbered in
+        let a = o.from_low in let b = o.as_long in let c = o.to_high in
+        absurd (omega arith)
 
--- it has its answer in what was read
-module _ (stands : ℕ → Node → Type 0) (listed : ℕ → List ℕ) (most : ℕ) (wants_prefilter : Bool)
-    (chains : List (List ChainMatch)) (i : Inside) (v : Streaming) (inv : IsStreaming stands chains i v)
-    (standard : v.built.kind ≡ Standard) (state at : ℕ) (picked : Option Occurrence) (on : HasReadOn stands i v state at picked) where
-  inside-bytes : v.front + at ≤ length v.bytes
-  inside-bytes = let w = on.within in let n = inv.counted in omega arith
+-- what of a match is picked that ends by an offset
+within-some : (h : ℕ) (r : Option Occurrence) (m : Occurrence) → within h r ≡ Some m → r ≡ Some m
+within-some h None m is = absurd (cc)
+within-some h (Some n) m is = by (ends_by h n) is
+  where
+    by : (t : Bool) → cond t (Some n) None ≡ Some m → Some n ≡ Some m
+    by true is = is
+    by false is = absurd (cc)
 
-  -- a match that is picked
-  module _ (m : Occurrence) (is : picked ≡ Some m) (unfailed : v.phase ≢ Failed) where
-    occurs : Occurs (up_to v i.begun (v.front + at)) m
-    occurs = pick-Occurs v.built.kind (up_to v i.begun (v.front + at)) m (sym on.picks ∙ is)
+module _ (a : AutomatonView) {bytes : List ℕ} {given front kept : ℕ} {phase : Phase} {buffer : ℕ} {chains : List (List ChainMatch)}
+    {i : Inside} (inv : IsStreaming (a.stands No) chains i (streaming_by a.built bytes given front kept phase buffer))
+    {there : Cursor} {byte : Option ℕ} (on : IsReadOn a chains i there byte) (standard : a.built.kind ≡ Standard)
+    (first : i.stops ≡ true) where
+  abbrev v : Streaming
+  v = streaming_by a.built bytes given front kept phase buffer
 
-    ends-within : m.end ≤ v.front + at
-    ends-within = occurs.to_high
+  -- what was read so far, as far as an offset
+  abbrev so-far : ℕ → Search
+  so-far k = record (q a inv []) { high = k }
 
-    module _ (more : List ℕ) where
-      abbrev whole_span : Span
-      whole_span = record { start = i.begun; end = length (v.bytes ++ more) }
+  abbrev picked : ℕ → Option Occurrence
+  picked k = pick a.built.kind (so-far k)
 
-      same-order : order_of v.built.kind i.stops ≡ v.built.kind
-      same-order = order-by v.built.kind i.stops inv.stops
+  abbrev node : ℕ → Node
+  node k = node_at a.built.kind (q a inv []) k
 
-      order-picks : Some m ≡ pick (order_of v.built.kind i.stops) (up_to v i.begun (v.front + at))
-      order-picks = sym is ∙ on.picks ∙ ap (λ (k : MatchKind). pick k (up_to v i.begun (v.front + at))) (sym same-order)
+  -- by one byte more the first match of the node there is picked, if nothing was picked before
+  picked-next : (k : ℕ) → i.begun ≤ k → k < length bytes → picked k ≡ None → (ns : List ℕ)
+      → matches_of a.built No (node (k + 1)) ≡ ns → picked (k + 1) ≡ option_map (place_of a.built (k + 1)) (slice_get ns 0)
+  picked-next k low room none [] e =
+      let l = ap length (append-nil bytes) in
+      pick-goes_on a.built.kind a.built.kind (so-far k) low (omega arith) (inr (standard, none)) e ∙ none
+  picked-next k low room none (n ∷ ns) e =
+      let l = ap length (append-nil bytes) in
+      pick-found a.built.kind a.built.kind (so-far k) low (omega arith) (inr (standard, none)) n ns e
 
-      picks-there : Some m ≡ pick (order_of v.built.kind i.stops)
-          (record (stream_from v.built (v.bytes ++ more) i.begun) { high = v.front + at })
-      picks-there =
-          order-picks
-          ∙ sym (pick-extended (up_to v i.begun (v.front + at)) more on.is_at.onward inside-bytes (order_of v.built.kind i.stops))
+  -- where nothing is picked the node has no match
+  none-found : (k : ℕ) → i.begun ≤ k → k ≤ length bytes → picked k ≡ None → (ns : List ℕ)
+      → matches_of a.built No (node k) ≡ ns → ns ≡ []
+  none-found k low up none [] e = refl
+  none-found k low up none (n ∷ ns) e = elim (cases_lt i.begun k) [
+    | inl before ↦
+        let p = k - 1 in let back : p + 1 ≡ k = omega arith in
+        let less : picked p ≡ None = none-before k p (omega arith) none in
+        let some = picked-next p (omega arith) (omega arith) less (n ∷ ns)
+        (ap (λ (h : ℕ). matches_of a.built No (node h)) back ∙ e) in
+        absurd (let gone = ap picked back ∙ none in cc)
+    | inr at-begin ↦
+        let here : i.begun ≡ k = omega arith in let l = ap length (append-nil bytes) in
+        absurd (let some = pick-empty_some a.built.kind (so-far k) here (omega arith) false n ns e in cc)
+  ]
+    where
+      none-before : (k p : ℕ) → p ≤ k → picked k ≡ None → picked p ≡ None
+      none-before k p less none =
+          subst (λ (o : MatchKind). pick o (so-far k) ≡ None → pick o (so-far p) ≡ None) (sym standard)
+          (λ gone. pick-within (so-far k) p less ∙ ap (within p) gone) none
 
-      -- whichever bytes follow, it is the pick
-      stays-pick : pick v.built.kind (stream_from v.built (v.bytes ++ more) i.begun) ≡ Some m
-      stays-pick =
-          let long = length-append v.bytes more in let w = inside-bytes in
-          ap (λ (k : MatchKind). pick k (stream_from v.built (v.bytes ++ more) i.begun)) (sym same-order)
-          ∙ sym (picked-final (scan stands listed v.built most wants_prefilter) i.stops (v.bytes ++ more) whole_span (v.front + at) m
-          (omega arith) (same-order ∙ standard) picks-there)
+  none-here : picked (place a inv) ≡ None
+  none-here =
+      ap (λ (bs : List ℕ). pick a.built.kind (record (stream_from a.built bs i.begun) { high = place a inv })) (append-nil bytes)
+      ∙ (inv.past.first standard).none
 
-    starts-beyond : v.kept ≤ m.start
-    starts-beyond = subst (λ (r : Option Occurrence). IfSome r (λ n. v.kept ≤ n.start)) is on.after
+  -- no match was passed between
+  quiet : (k : ℕ) → place a inv < k → k < at a inv on → matches_of a.built No (node k) ≡ []
+  quiet k low high =
+      let same : k ≡ front + (k - front) = omega arith in
+      ap (λ (h : ℕ). matches_of a.built No (node h)) same
+      ∙ (stops a inv on).passes first front (q a inv []) (of-search a inv on []) (stands-here a inv on [] (none-more a inv))
+      (k - front) (omega arith) (omega arith)
 
-    -- the search begins anew after it
-    begins-anew : IsStreaming stands chains (record i { state = i.start; at = m.end - v.front; begun = m.end })
-        (record v { given = v.given + 1; kept = m.end })
-    begins-anew =
-        let a = starts-beyond in let o = occurs.as_long in let w = ends-within in let front = inv.in_buffer in
-        let f = on.within in let n = inv.counted in
-        let place : m.end ≡ v.front + (m.end - v.front) = omega arith in
-        streams-then inv m (λ more last. stays-pick more) starts-beyond unfailed i.start (m.end - v.front) i.rest (omega arith)
-        (omega arith)
-        (λ first. record {
-          within = omega arith;
-          onward = omega arith;
-          is_at = subst (λ (k : ℕ). At stands listed v.built most wants_prefilter v.bytes m.end i.start k) place
-              (at-start (scan stands listed v.built most wants_prefilter) (in_memory v.bytes (record { start = m.end; end = length v.bytes })) m.end inv.starts
-              refl (omega arith));
-          picks = sym (ap (λ (k : ℕ). pick v.built.kind (record (stream_from v.built v.bytes m.end) { high = k }))
-              (sym place)
-              ∙ picked-nothing stands listed v.built most wants_prefilter (allowed-some v.built inv.allowed) v.built.kind v.bytes
-              m.end);
-          after = tt;
-        })
-        (λ leftmost. absurd (never-leftmost v.built.kind standard leftmost))
+  begun-place : i.begun ≤ place a inv
+  begun-place = inv.read
 
-    -- given by where the match ends, and by how many were given then
-    module _ (at' begun kept given : ℕ) (again : at' ≡ m.end - v.front) (begins : begun ≡ m.end) (is_kept : kept ≡ m.end)
-        (one_more : given ≡ v.given + 1) where
-      pub streams-anew : IsStreaming stands chains (record i { state = i.start; at = at'; begun = begun })
-          (record v { given = given; kept = kept })
-      streams-anew = rw (again, begins, is_kept, one_more) begins-anew
+  none-for : (n : ℕ) → place a inv + n < at a inv on → picked (place a inv + n) ≡ None
+  none-for zero up = let e : place a inv ≡ place a inv + zero = omega arith in sym (ap picked e) ∙ none-here
+  none-for (suc n) up =
+      let e : place a inv + n + 1 ≡ place a inv + suc n = omega arith in let w = within-bytes a inv on in let b = begun-place in
+      sym (ap picked e)
+      ∙ picked-next (place a inv + n) (omega arith) (omega arith) (none-for n (omega arith)) []
+      (quiet (place a inv + n + 1) (omega arith) (omega arith))
 
-      pub gives-first : GivesMatch v m (record v { given = given; kept = kept })
-      gives-first = rw (is_kept, one_more) (gives inv m (λ more last. stays-pick more) starts-beyond unfailed)
+  -- so the first match of the node where it has come to is picked
+  picked-there : (ns : List ℕ) → matches_of a.built No (Some (u a inv on)) ≡ ns
+      → picked (at a inv on) ≡ option_map (place_of a.built (at a inv on)) (slice_get ns 0)
+  picked-there ns e = elim (cases_lt (place a inv) (at a inv on)) [
+    | inl further ↦
+        let k = at a inv on - 1 in let n = k - place a inv in let same : place a inv + n ≡ k = omega arith in
+        let back : k + 1 ≡ at a inv on = omega arith in let w = within-bytes a inv on in let b = begun-place in
+        let none : picked k ≡ None = sym (ap picked same) ∙ none-for n (omega arith) in
+        subst (λ (h : ℕ). picked h ≡ option_map (place_of a.built h) (slice_get ns 0)) back
+        (picked-next k (omega arith) (omega arith) none ns (ap (λ (h : ℕ). matches_of a.built No (node h)) back ∙ node-there ∙ e))
+    | inr same-place ↦
+        let f = (stops a inv on).comes.onward in let same : place a inv ≡ at a inv on = omega arith in
+        let none : picked (at a inv on) ≡ None = sym (ap picked same) ∙ none-here in
+        let w = within-bytes a inv on in let b = begun-place in
+        let nothing = none-found (at a inv on) (omega arith) w none ns (node-there ∙ e) in
+        none ∙ sym (ap (λ (ms : List ℕ). option_map (place_of a.built (at a inv on)) (slice_get ms 0)) nothing)
+  ]
+    where
+      node-there : matches_of a.built No (node (at a inv on)) ≡ matches_of a.built No (Some (u a inv on))
+      node-there =
+          ap (matches_of a.built No)
+          (node-is a i.stops on.shown i.filled front (q a inv []) (of-search a inv on []) there.at (u a inv on)
+          (stands-there a inv on [] (none-more a inv)))
 
-  -- or nothing
-  module _ (answered : IsAnswered i.stops i.filled at (node_there v.built v.bytes i.begun (v.front + at)) picked)
-      (none : picked ≡ None) where
-    alive : node_there v.built v.bytes i.begun (v.front + at) ≢ None
-    alive dead =
-        dead-picked v.built.kind (up_to v i.begun (v.front + at)) refl on.is_at.onward inside-bytes dead v.built.kind
-        (sym on.picks ∙ none)
+  -- the node to which a byte leads
+  node-next : (k : ℕ) → i.begun ≤ k → k < length bytes → (w : List ℕ) → node k ≡ Some w
+      → step a.built.kind (plain_of a.built) No (Some w) (byte_at (q a inv []) k) ≡ None → node (k + 1) ≡ None
+  node-next k low room w there dead =
+      let l = ap length (append-nil bytes) in
+      sym (step-byte a.built.kind (plain_of a.built) (so-far k) low (omega arith))
+      ∙ ap (λ (n : Node). step a.built.kind (plain_of a.built) No n (byte_at (q a inv []) k)) there ∙ dead
 
-    all : at ≡ i.filled
-    all = search (rules, alive, false≢true)
+  module _ (lists : (u : Node) → a.stands No there.state u → a.listed there.state ≡ matches_of a.built No u) where
+    lists-there : a.listed there.state ≡ matches_of a.built No (Some (u a inv on))
+    lists-there = lists (Some (u a inv on)) (stops a inv on).comes.stands
 
-    picks-none : pick v.built.kind (stream_from v.built v.bytes i.begun) ≡ None
-    picks-none =
-        let e = inv.counted in let a = all in
-        ap (λ (k : ℕ). pick v.built.kind (up_to v i.begun k)) (let end : length v.bytes ≡ v.front + at = omega arith in end)
-        ∙ sym on.picks ∙ none
+    -- a state with a match gives that
+    module _ (n : ℕ) (ns : List ℕ) (listed : a.listed there.state ≡ n ∷ ns) where
+      abbrev m : Occurrence
+      m = place_of a.built (at a inv on) n
 
-    -- given by the place from which on bytes are kept then
-    module _ (kept : ℕ) (is : kept ≡ kept_from v.phase (max v.kept (v.front + at - i.reserve)) (v.front + at)) where
-      pub streams-first : IsStreaming stands chains (record i { state = state; at = at }) (record v { kept = kept })
-      streams-first =
-          streams-on inv at on.onward all on.is_at.onward (settles-standard inv at on.onward all standard picks-none)
-          (λ ended. picks-none) kept is state i.rest
-          (λ first. record {
-            within = on.within;
-            onward = omega arith;
-            is_at = on.is_at;
-            picks = sym none ∙ on.picks;
-            after = tt;
-          })
-          (λ leftmost. absurd (never-leftmost v.built.kind standard leftmost))
+      picks-there : picked (at a inv on) ≡ Some m
+      picks-there = picked-there (n ∷ ns) (sym lists-there ∙ listed)
 
-      pub gives-none : HasGivenSettled v (record v { kept = kept })
-      gives-none =
-          gives-settled inv at on.onward all on.is_at.onward (settles-standard inv at on.onward all standard picks-none)
-          (λ ended. picks-none) kept is
+      -- whichever bytes follow
+      picks : (more : List ℕ) → pick a.built.kind (q a inv more) ≡ Some m
+      picks more = subst (λ (o : MatchKind). pick o (q a inv more) ≡ Some m) (sym standard) (stays (subst At standard longer))
+        where
+          At : MatchKind → Type 0
+          At o = pick o (record (q a inv more) { high = at a inv on }) ≡ Some m
+
+          longer : At a.built.kind
+          longer =
+              let w = within-bytes a inv on in
+              pick-extended (record (stream_from a.built bytes i.begun) { high = at a inv on }) more (begun-before a inv on) w a.built.kind
+              ∙ sym (ap (λ (bs : List ℕ). pick a.built.kind (record (stream_from a.built bs i.begun) { high = at a inv on })) (append-nil bytes))
+              ∙ picks-there
+
+          stays : At Standard → pick Standard (q a inv more) ≡ Some m
+          stays here =
+              let w = within-bytes a inv on in let l = length-append bytes more in
+              within-some (at a inv on) (pick Standard (q a inv more)) m
+              (sym (pick-within (q a inv more) (at a inv on) (omega arith)) ∙ here)
+
+      occurs-there : m.start + length (pattern_of a.built.patterns n) ≡ at a inv on
+      occurs-there = (pick-Occurs a.built.kind (so-far (at a inv on)) m picks-there).as_long
+
+      -- it was read on to it, since nothing was picked before
+      further : place a inv < at a inv on
+      further = elim (cases_lt (place a inv) (at a inv on)) [
+        | inl beyond ↦ beyond
+        | inr same-place ↦
+            let f = (stops a inv on).comes.onward in let same : place a inv ≡ at a inv on = omega arith in
+            absurd (let none = sym (ap picked same) ∙ none-here in let some = picks-there in cc)
+      ]
+
+      beyond : kept ≤ m.start
+      beyond =
+          let o = pick-Occurs a.built.kind (so-far (at a inv on)) m picks-there in
+          let long = longest-most a.built.patterns n o.numbered in let as_long = occurs-there in let low = o.from_low in
+          let spare = subst (λ (k : ℕ). longest_len a.built.patterns ≤ k + 1) (sym inv.reserve) (most-back a.built) in
+          let f = further in
+          elim inv.back [
+            | inl back ↦ omega arith
+            | inr over ↦ let whole = over.whole in let w = within-buffer a inv on in absurd (omega arith)
+          ]
+
+      -- the search begins anew after it
+      anew : (base : ℕ) → base ≡ at a inv on → (rest : Option ChainRest) → rest ≡ None
+          → StandsPast (a.stands No) chains (record i { state = i.start; at = there.at; rest = rest; begun = base })
+          (record v { given = given + 1; kept = base })
+      anew base is rest none = record {
+        node = [];
+        there = inv.starts;
+        after = λ more last.
+            subst (λ (r : Option ChainRest). StandsAfter a.built.kind (plain_of a.built) (stream_from a.built (bytes ++ more) base)
+            (pending a.built chains r) [] (at a inv on)) (sym none)
+            (subst (λ (k : ℕ). StandsAfter a.built.kind (plain_of a.built) (stream_from a.built (bytes ++ more) base) [] [] k) is
+            (after-start a.built.kind (plain_of a.built) (stream_from a.built (bytes ++ more) base)
+            (let w = within-bytes a inv on in let l = length-append bytes more in
+            record { free = refl; ordered = omega arith; inside = omega arith; same = refl })));
+        sound = subst (λ (r : Option ChainRest). IsRestBefore chains base r) (sym none) tt;
+        near = subst (λ (r : Option ChainRest). IfSome r (λ x. base ≤ base)) (sym none) tt;
+        first = λ standard'. record {
+          left = none;
+          none = sym (ap (λ (k : ℕ). pick a.built.kind (record (stream_from a.built bytes base) { high = k })) is)
+              ∙ picked-nothing a.built (allowed-some a.built inv.allowed) a.built.kind bytes base;
+        };
+      }
+
+      settles-listed : Settles a chains i v there (record { pattern = n; rest = 0; next = i.start; chain = None })
+      settles-listed =
+          let whole : at a inv on - 0 ≡ at a inv on = omega arith in let o = occurs-there in
+          record {
+            rest = omega arith;
+            numbered = (pick-Occurs a.built.kind (so-far (at a inv on)) m picks-there).numbered;
+            fits = omega arith;
+            within = within-buffer a inv on;
+            picks = λ more last. picks more ∙ sym (ap (λ (k : ℕ). Some (place_of a.built k n)) whole);
+            beyond = subst (λ (k : ℕ). kept ≤ (place_of a.built k n).start) (sym whole) beyond;
+            stands = λ rest none. anew (at a inv on - 0) whole rest none;
+          }
+
+    pub settles-first : (gave : Given) → Some gave ≡ first_given i.start (a.listed there.state) → Settles a chains i v there gave
+    settles-first gave is = by (a.listed there.state) refl is
+      where
+        by : (ns : List ℕ) → a.listed there.state ≡ ns → Some gave ≡ first_given i.start ns → Settles a chains i v there gave
+        by [] e is = absurd (cc)
+        by (n ∷ ns) e is =
+            let same : record { pattern = n; rest = 0; next = i.start; chain = None } ≡ gave = cc in
+            subst (Settles a chains i v there) same (settles-listed n ns e)
+
+    -- or it has none
+    module _ (nothing : None ≡ first_given i.start (a.listed there.state)) where
+      no-match : a.listed there.state ≡ []
+      no-match = by (a.listed there.state) nothing
+        where
+          by : (ns : List ℕ) → None ≡ first_given i.start ns → ns ≡ []
+          by [] is = refl
+          by (n ∷ ns) is = absurd (cc)
+
+      none-there : picked (at a inv on) ≡ None
+      none-there = picked-there [] (sym lists-there ∙ no-match)
+
+      -- no byte leads to the dead node
+      whole : i.filled ≤ there.at
+      whole = by byte (stops a inv on).over
+        where
+          by : (b : Option ℕ)
+              → MatchOption b ((i.filled ≤ there.at) ⊎ ((i.stops ≡ true) × (a.listed there.state ≢ [])))
+              (λ b. (there.at < i.filled) × (b ≡ slice_index on.shown there.at) × (step_of a.built No (Some (u a inv on)) b ≡ None))
+              → i.filled ≤ there.at
+          by None (inl over) = over
+          by None (inr stopped) = absurd (stopped.1 no-match)
+          by (Some b) stopped = absurd (never-dead b stopped.0 stopped.1 stopped.2)
+            where
+              never-dead : (b : ℕ) → there.at < i.filled → b ≡ slice_index on.shown there.at
+                  → step_of a.built No (Some (u a inv on)) b ≡ None → ⊥
+              never-dead b before is dead =
+                  let c = inv.counted in let l = ap length (append-nil bytes) in let s = begun-before a inv on in
+                  let gone : node (at a inv on + 1) ≡ None =
+                  node-next (at a inv on) s (omega arith) (u a inv on) (stands-there a inv on [] (none-more a inv)).stands
+                  (ap (λ (k : ℕ). step a.built.kind (plain_of a.built) No (Some (u a inv on)) k)
+                  (byte-is a i.stops on.shown i.filled front there.at b (q a inv []) (of-search a inv on []) before is) ∙ dead) in
+                  dead-picked a.built.kind (so-far (at a inv on + 1)) refl (omega arith) (omega arith) gone a.built.kind
+                  (picked-next (at a inv on) s (omega arith) none-there [] (ap (matches_of a.built No) gone))
+
+      all : there.at ≡ i.filled
+      all = let w = within-buffer a inv on in let r = whole in omega arith
+
+      picks-none : pick a.built.kind (stream_from a.built bytes i.begun) ≡ None
+      picks-none =
+          let e = all in let c = inv.counted in
+          let end : length bytes ≡ at a inv on = omega arith in
+          ap (λ (k : ℕ). pick a.built.kind (record (stream_from a.built bytes i.begun) { high = k })) end
+          ∙ sym (ap (λ (bs : List ℕ). pick a.built.kind (record (stream_from a.built bs i.begun) { high = at a inv on })) (append-nil bytes))
+          ∙ none-there
+
+      pub holds-first : HoldsBack a chains i v inv there
+      holds-first = record {
+        ahead = (stops a inv on).comes.onward;
+        all = all;
+        begun = begun-before a inv on;
+        settles = settles-standard inv there.at (stops a inv on).comes.onward all standard picks-none;
+        ends = λ ended. picks-none;
+        stands = λ kept' rest none. record {
+          node = u a inv on;
+          there = (stops a inv on).comes.stands;
+          after = λ more last.
+              subst (λ (n : Option ChainRest). StandsAfter a.built.kind (plain_of a.built) (q a inv more) (pending a.built chains n)
+              (u a inv on) (at a inv on)) (sym none) (stands-there a inv on more last);
+          sound = subst (IsRestBefore chains i.begun) (sym none) tt;
+          near = subst (λ (n : Option ChainRest). IfSome n (λ r. kept' ≤ i.begun)) (sym none) tt;
+          first = λ standard'. record {
+            left = none;
+            none = sym (ap (λ (bs : List ℕ). pick a.built.kind (record (stream_from a.built bs i.begun) { high = at a inv on })) (append-nil bytes))
+                ∙ none-there;
+          };
+        };
+      }

@@ -1,5 +1,5 @@
 -- The search of a stream gives a match that is the next one whatever follows, and goes on after it.
-use Rattle.std.proofs.Common.{◌≡◌, ◌≢◌, ℕ, ◌+◌, ◌-◌, ◌<◌, ◌≤◌, true, List, [], ◌∷◌, ◌++◌, length, length-append, get_or, inl, inr, refl, ap, sym, subst, ◌∙◌, arith, Option, Some, None, AllPairs, slice_get, rules}
+use Rattle.std.proofs.Common.{◌≡◌, ◌≢◌, ℕ, ◌+◌, ◌-◌, ◌<◌, ◌≤◌, true, List, [], ◌∷◌, ◌++◌, length, length-append, get_or, inl, inr, refl, ap, sym, subst, ◌∙◌, arith, Option, Some, AllPairs, slice_get, rules}
 use Rattle.std.proofs.lemmas.Bool.{cases_lt, false≢true}
 use Rattle.std.proofs.lemmas.List.{append-nil, append_assoc}
 use Rattle.std.proofs.lemmas.Option.{get_or_from_slice_get, slice_get_within}
@@ -8,7 +8,7 @@ use Rattle.ac_automaton.specs.Util.{Built, is_leftmost, IsAfter, IsSettledAt, Is
 use Rattle.ac_util.proofs.Decided.{settled-at}
 use Rattle.ac_util.proofs.Shortest.{none-empty}
 use Rattle.ac_util.proofs.Walks.{next-some, pick-Occurs, walk-ordered, walk_after-Some}
-use Rattle.ac_automaton.specs.Prelude.{Ended, Failed, GivesMatch, HasReadOn, Inside, IsSettledIn, IsSettling, IsStreaming, Open, Phase, StandsPast, stream_from, Streaming}
+use Rattle.ac_automaton.specs.Prelude.{Ended, Failed, GivesMatch, Inside, IsSettledIn, IsSettling, IsStreaming, Open, Phase, StandsPast, stream_from, Streaming}
 use Rattle.ac_automaton.specs.Streams.{HasGiven}
 use Rattle.ac_automaton.specs.declared.automaton.commits.ChainMatch.{ChainMatch}
 use Rattle.ac_automaton.specs.declared.automaton.onward.ChainRest.{ChainRest}
@@ -178,15 +178,11 @@ module _ {stands : ℕ → Node → Type 0} {chains : List (List ChainMatch)} {i
 
   -- and stands where it goes on
   pub streams-then : (state at : ℕ) (rest : Option ChainRest) → at ≤ i.filled → m.end ≤ v.front + at
-      → (v.built.kind ≡ Standard
-      → HasReadOn stands (record i { state = state; at = at; rest = rest; begun = m.end }) (record v { given = v.given + 1; kept = m.end })
-      state at None)
-      → (is_leftmost v.built.kind ≡ true
       → StandsPast stands chains (record i { state = state; at = at; rest = rest; begun = m.end })
-      (record v { given = v.given + 1; kept = m.end }))
+      (record v { given = v.given + 1; kept = m.end })
       → IsStreaming stands chains (record i { state = state; at = at; rest = rest; begun = m.end })
       (record v { given = v.given + 1; kept = m.end })
-  streams-then state at rest within read first past = record {
+  streams-then state at rest within read past = record {
     allowed = inv.allowed;
     starts = inv.starts;
     stops = inv.stops;
@@ -200,7 +196,6 @@ module _ {stands : ℕ → Node → Type 0} {chains : List (List ChainMatch)} {i
     holds = inv.holds;
     within = within;
     read = read;
-    searched = first;
     past = past;
     given = given-then;
     all = λ ended standard.

@@ -6,7 +6,7 @@ use Rattle.ac_automaton.specs.Util.{is_leftmost, IsNear, IsSettledAt, IsSettledB
 use Rattle.ac_util.proofs.Decided.{settled-at}
 use Rattle.ac_util.proofs.Shortest.{longest-most, none-empty}
 use Rattle.ac_util.proofs.Walks.{next-none, walk_after-None}
-use Rattle.ac_automaton.specs.Prelude.{Ended, Failed, HasGivenSettled, HasReadOn, Inside, IsSettledIn, IsStreaming, kept_from, Open, Phase, StandsPast, stream_from, Streaming}
+use Rattle.ac_automaton.specs.Prelude.{Ended, Failed, HasGivenSettled, Inside, IsSettledIn, IsStreaming, kept_from, Open, Phase, StandsPast, stream_from, Streaming}
 use Rattle.ac_automaton.specs.declared.automaton.commits.ChainMatch.{ChainMatch}
 use Rattle.ac_automaton.specs.declared.automaton.onward.ChainRest.{ChainRest}
 use Rattle.ac_automaton.proofs.StreamGiving.{settled-kind}
@@ -113,12 +113,9 @@ module _ {stands : ℕ → Node → Type 0} {chains : List (List ChainMatch)} {i
       }
 
       pub streams-on : (state : ℕ) (rest : Option ChainRest)
-          → (v.built.kind ≡ Standard
-          → HasReadOn stands (record i { state = state; at = at; rest = rest }) (record v { kept = kept }) state at None)
-          → (is_leftmost v.built.kind ≡ true
-          → StandsPast stands chains (record i { state = state; at = at; rest = rest }) (record v { kept = kept }))
+          → StandsPast stands chains (record i { state = state; at = at; rest = rest }) (record v { kept = kept })
           → IsStreaming stands chains (record i { state = state; at = at; rest = rest }) (record v { kept = kept })
-      streams-on state rest first past = record {
+      streams-on state rest past = record {
         allowed = inv.allowed;
         starts = inv.starts;
         stops = inv.stops;
@@ -132,7 +129,6 @@ module _ {stands : ℕ → Node → Type 0} {chains : List (List ChainMatch)} {i
         holds = inv.holds;
         within = (let a = all in omega arith);
         read = read;
-        searched = first;
         past = past;
         given = inv.given;
         all = inv.all;

@@ -89,9 +89,9 @@ pub record HasGonePast {A M : Type 0} (seen : A → AutomatonView) (finding : Fi
 -- where what it goes on with is paid, and it is on its way there or has ended
 module _ {A M : Type 0} (seen : A → AutomatonView) (o : Onward A M) (tape : Taped) (span : Span) (last : Option ℕ) (start : ℕ)
     (counts : Counts) (inside : span.end ≤ length tape.bytes) (ordered : span.start ≤ span.end)
-    (past : IsReadingPast seen o (finding_of (seen o.automaton.now) No false) tape span last start counts) where
+    (past : IsReadingPast seen o (finding_of (seen o.core.automaton.now) No false) tape span last start counts) where
   abbrev a : AutomatonView
-  a = seen o.automaton.now
+  a = seen o.core.automaton.now
 
   abbrev asked : Search
   asked = search_of a.built No tape.bytes span.start span.end
@@ -122,7 +122,7 @@ module _ {A M : Type 0} (seen : A → AutomatonView) (o : Onward A M) (tape : Ta
     abbrev moved : Onward A M
     moved = record o { cursor = cursor; byte = byte; rest = rest; budget = budget }
 
-    past-by : (found : Option Occurrence) → HasGiven a o.commits.now.chains asked start found rest cursor byte work
+    past-by : (found : Option Occurrence) → HasGiven a o.core.commits.now.chains asked start found rest cursor byte work
         → HasGonePast seen (finding_of a No false) tape.bytes span last start (work_of tape counts) found moved
         (record { bytes = tape.bytes; place = place }) new_counts
     past-by None given =
@@ -131,7 +131,7 @@ module _ {A M : Type 0} (seen : A → AutomatonView) (o : Onward A M) (tape : Ta
           goes_on = goes-by None given.answer paid;
           past = record {
             finds = refl;
-            lawful = record { on = past.lawful.on; starts = past.lawful.starts; commits = past.lawful.commits; skips = past.lawful.skips; needle = past.lawful.needle };
+            lawful = record { past = past.lawful.past; on = past.lawful.on; starts = past.lawful.starts; commits = past.lawful.commits; skips = past.lawful.skips; needle = past.lawful.needle };
             begun = (let b = past.begun in omega arith);
             legal = omega arith;
             beyond = IfSome_then last past.beyond (λ e b. omega arith);
@@ -147,7 +147,7 @@ module _ {A M : Type 0} (seen : A → AutomatonView) (o : Onward A M) (tape : Ta
               (paid-given a tape.bytes span last start past.lawful.on inside ordered past.begun past.beyond m onward);
           past = record {
             finds = refl;
-            lawful = record { on = past.lawful.on; starts = past.lawful.starts; commits = past.lawful.commits; skips = past.lawful.skips; needle = past.lawful.needle };
+            lawful = record { past = past.lawful.past; on = past.lawful.on; starts = past.lawful.starts; commits = past.lawful.commits; skips = past.lawful.skips; needle = past.lawful.needle };
             begun = onward.begun;
             legal = (let h = onward.ordered in omega arith);
             beyond = omega arith;
@@ -166,9 +166,9 @@ pub past-goes : {A M : Type 0} {seen : A → AutomatonView} {o : Onward A M} {fi
     → HasGonePast seen finding tape.bytes span last start (work_of tape counts) found new new_tape new_counts
 past-goes {A} {M} {seen} {o} {finding} {tape} {span} {last} {start} {counts} inside ordered past found new new_tape new_counts keeps bytes goes =
     subst (λ (f : Finding). HasGonePast seen f tape.bytes span last start (work_of tape counts) found new new_tape new_counts) (sym past.finds)
-    (subst (λ (n : Onward A M). HasGonePast seen (finding_of (seen o.automaton.now) No false) tape.bytes span last start (work_of tape counts)
+    (subst (λ (n : Onward A M). HasGonePast seen (finding_of (seen o.core.automaton.now) No false) tape.bytes span last start (work_of tape counts)
     found n new_tape new_counts) (sym keeps)
-    (subst (λ (bs : List ℕ). HasGonePast seen (finding_of (seen o.automaton.now) No false) tape.bytes span last start (work_of tape counts)
+    (subst (λ (bs : List ℕ). HasGonePast seen (finding_of (seen o.core.automaton.now) No false) tape.bytes span last start (work_of tape counts)
     found (record o { cursor = new.cursor; byte = new.byte; rest = new.rest; budget = new.budget }) (record { bytes = bs; place = new_tape.place }) new_counts)
     (sym bytes)
     (past-by seen o tape span last start counts inside ordered
@@ -329,13 +329,13 @@ module _ {A M : Type 0} (seen : A → AutomatonView) (finding : Finding) (bytes 
   begins-reading : (o : Onward A M) → BeginsPast seen finding span.start o
       → IsReadingPast seen o finding (fresh bytes) span None span.start no_counts
   begins-reading o begins =
-      let a = seen o.automaton.now in
-      let at-start : span.start ≤ span.end → IsOnwardIn a (fresh bytes) span.start span.end span.start [] (record { state = o.start; at = span.start }) None no_counts =
+      let a = seen o.core.automaton.now in
+      let at-start : span.start ≤ span.end → IsOnwardIn a (fresh bytes) span.start span.end span.start [] (record { state = o.core.start; at = span.start }) None no_counts =
       λ ordered. record {
         node = [];
         stands = record {
           there = begins.lawful.starts;
-          after = after-start a.built.kind (plain_of a.built) (on-leftmost a.built begins.lawful.on) (on-some a.built begins.lawful.on)
+          after = after-start a.built.kind (plain_of a.built)
               (search_of a.built No bytes span.start span.end) (record { free = refl; ordered = ordered; inside = inside; same = refl });
           hand = tt;
         };
@@ -357,10 +357,10 @@ module _ {A M : Type 0} (seen : A → AutomatonView) (finding : Finding) (bytes 
         begun = omega arith;
         legal = legal;
         beyond = tt;
-        sound = λ up. subst (IsRestBefore o.commits.now.chains span.start) (sym begins.rest) tt;
+        sound = λ up. subst (IsRestBefore o.core.commits.now.chains span.start) (sym begins.rest) tt;
         onward = λ ordered.
             subst (λ (rest : Option ChainRest). IsOnwardIn a (fresh bytes) span.start span.end span.start
-            (pending a.built o.commits.now.chains rest) o.cursor o.byte no_counts) (sym begins.rest)
+            (pending a.built o.core.commits.now.chains rest) o.cursor o.byte no_counts) (sym begins.rest)
             (subst (λ (b : Option ℕ). IsOnwardIn a (fresh bytes) span.start span.end span.start [] o.cursor b no_counts) (sym begins.byte)
             (subst (λ (k : Cursor). IsOnwardIn a (fresh bytes) span.start span.end span.start [] k None no_counts) (sym begins.cursor)
             (at-start ordered)));

@@ -1,5 +1,5 @@
 -- What a leftmost walk has come to that reads each byte once, and what it has counted.
-use Rattle.std.specs.Prelude.{◌≡◌, ℕ, ◌+◌, ◌-◌, ◌*◌, ◌<◌, ◌≤◌, Bool, false, true, List, [], length, map, drop, slice_get, slice_index, Option, None, Some, IfSome, MatchBool, MatchOption}
+use Rattle.std.specs.Prelude.{◌≡◌, ℕ, ◌+◌, ◌-◌, ◌*◌, ◌<◌, ◌≤◌, Bool, false, true, IsTrue, ◌↔◌, ◌≢◌, ◌⊎◌, List, [], length, map, drop, slice_get, slice_index, Option, None, Some, IfSome, MatchBool, MatchOption, option_map}
 use Rattle.ac_automaton.specs.Util.{Built, Counts, credit, from, may_skip, No, Node, Occurrence, pattern_of, pick, Search, Span, Taped, usize_max}
 use Rattle.ac_util.specs.Prelude.{outward}
 use Rattle.ac_automaton.specs.declared.automaton.commits.ChainMatch.{ChainMatch}
@@ -7,14 +7,14 @@ use Rattle.ac_automaton.specs.declared.automaton.onward.ChainRest.{ChainRest}
 use Rattle.ac_automaton.specs.declared.automaton.onward.Given.{Given}
 use Rattle.ac_automaton.specs.declared.automaton.onward.Onward.{Onward}
 use Rattle.ac_automaton.specs.declared.automaton.scan.Cursor.{Cursor}
-use Rattle.ac_automaton.specs.Automata.{AutomatonView, IsState, looks_of, plain_of, step_of}
-use Rattle.ac_automaton.specs.Commits.{AreCommits, chain_at, ending_in, reads_on}
+use Rattle.ac_automaton.specs.Automata.{AutomatonView, IsState, looks_of, matches_of, plain_of, step_of}
+use Rattle.ac_automaton.specs.Commits.{AreCommits, chain_at, CommitsView, ending_in, reads_on}
 use Rattle.ac_automaton.specs.Finds.{Finding, finding_of, place_of}
 use Rattle.ac_automaton.specs.Iterators.{IsByFinds, IsPaidOnce, walking_of}
 use Rattle.ac_util.specs.Prefilters.{first_bytes_of}
 use Rattle.ac_util.specs.Prefilters.Skip.{FirstOf, Needle}
 use Rattle.ac_util.specs.Commits.{IsPickIn, IsSearchFor, Anything, NodeCommits, StandsAfter}
-use Rattle.ac_automaton.specs.Scans.{search_of, Skips, Work, work_of}
+use Rattle.ac_automaton.specs.Scans.{node_at, search_of, Skips, Work, work_of}
 
 -- the matches of a chain that are still to be given
 abbrev pub pending : Built → List (List ChainMatch) → Option ChainRest → List Occurrence
@@ -58,7 +58,6 @@ pub record IsSearchOf (built : Built) (bytes : List ℕ) (to front : ℕ) (q : S
 -- some automaton may read on up to an offset of a tape
 pub record MayReadAlive (a : AutomatonView) (tape : Taped) (to : ℕ) (cursor : Cursor) : Type 0 where
   pub state : IsState (a.stands No) cursor.state
-  pub on : reads_on a.built ≡ true
   pub unread : tape.place ≤ cursor.at
   pub inside : to ≤ length tape.bytes
 
@@ -72,16 +71,29 @@ pub record ComesAlive (a : AutomatonView) (bytes : List ℕ) (to : ℕ) (v : Lis
       → StandsAfter a.built.kind (plain_of a.built) q [] v (front + cursor.at)
       → StandsAfter a.built.kind (plain_of a.built) q [] node (front + new_cursor.at)
 
--- as far as that, or to a byte before it that leads to the dead node
-pub record StopsAlive (a : AutomatonView) (bytes : List ℕ) (to : ℕ) (v : List ℕ) (cursor new_cursor : Cursor) (byte : Option ℕ)
-    : Type 0 where
+-- and between its cursors it has come to no match
+abbrev pub PassesNone : AutomatonView → List ℕ → ℕ → List ℕ → Cursor → ℕ → Type 0
+PassesNone a bytes to v cursor at =
+    (front : ℕ) (q : Search) → IsSearchOf a.built bytes to front q
+    → StandsAfter a.built.kind (plain_of a.built) q [] v (front + cursor.at) → (k : ℕ) → cursor.at < k → k < at
+    → matches_of a.built No (node_at a.built.kind q (front + k)) ≡ []
+
+-- as far as that, or to a byte before it that leads to the dead node; or if it stops at a match to a state that has some
+pub record StopsAlive (a : AutomatonView) (stops : Bool) (bytes : List ℕ) (to : ℕ) (v : List ℕ) (cursor new_cursor : Cursor)
+    (byte : Option ℕ) : Type 0 where
   pub comes : ComesAlive a bytes to v cursor new_cursor
-  pub over : MatchOption byte (to ≤ new_cursor.at)
+  pub passes : stops ≡ true → PassesNone a bytes to v cursor new_cursor.at
+  pub over : MatchOption byte ((to ≤ new_cursor.at) ⊎ ((stops ≡ true) × (a.listed new_cursor.state ≢ [])))
       (λ b. (new_cursor.at < to) × (b ≡ slice_index bytes new_cursor.at) × (step_of a.built No (Some comes.node) b ≡ None))
 
-abbrev pub ReadsAlive : AutomatonView → List ℕ → ℕ → Cursor → Cursor → Option ℕ → Type 0
-ReadsAlive a bytes to cursor new_cursor byte =
-    (v : List ℕ) → a.stands No cursor.state (Some v) → StopsAlive a bytes to v cursor new_cursor byte
+abbrev pub ReadsAlive : AutomatonView → Bool → List ℕ → ℕ → Cursor → Cursor → Option ℕ → Type 0
+ReadsAlive a stops bytes to cursor new_cursor byte =
+    (v : List ℕ) → a.stands No cursor.state (Some v) → StopsAlive a stops bytes to v cursor new_cursor byte
+
+-- a test tells whether nothing is to be read on from a state: it is dead, or has matches where the search stops at one
+abbrev pub TellsStop : AutomatonView → Bool → ℕ → Bool → Type 0
+TellsStop a stops s result =
+    (u : Node) → a.stands No s u → IsTrue result ↔ ((u ≡ None) ⊎ ((stops ≡ true) × (a.listed s ≢ [])))
 
 -- how many bytes are in hand
 abbrev pub in_hand : Option ℕ → ℕ
@@ -238,6 +250,21 @@ GivesOf a chains s result =
     (u : List ℕ) → a.stands No s (Some u)
     → MatchOption result (IsPickIn a.built.kind (plain_of a.built) No u None) (IsGiven a chains u)
 
+-- a search begins at its automaton's start; and unless it stops at a match it reads on past its matches by the commits
+pub record IsCore (a : AutomatonView) (c : CommitsView) (start : ℕ) (stops : Bool) : Type 0 where
+  pub starts : a.stands No start (Some [])
+  pub on : stops ≡ false → reads_on a.built ≡ true
+  pub commits : stops ≡ false → AreCommits a c
+
+-- what is given by the first of these matches, after which the search begins anew
+abbrev pub first_given : ℕ → List ℕ → Option Given
+first_given start listed = option_map (λ p. record { pattern = p; rest = 0; next = start; chain = None }) (slice_get listed 0)
+
+-- what is given of a state, if it stops at a match that state's first one
+abbrev pub GivesAt : AutomatonView → List (List ChainMatch) → ℕ → Bool → ℕ → Option Given → Type 0
+GivesAt a chains start true s result = result ≡ first_given start (a.listed s)
+GivesAt a chains start false s result = GivesOf a chains s result
+
 -- the rest of a chain has a number, and no more of it was given than there are bytes before an offset
 abbrev pub IsRestBefore : List (List ChainMatch) → ℕ → Option ChainRest → Type 0
 IsRestBefore chains low rest = IfSome rest (λ r. (r.chain < length chains) × (r.index ≤ low))
@@ -254,11 +281,12 @@ pub record HasGiven (a : AutomatonView) (chains : List (List ChainMatch)) (q : S
 
 -- a walk that reads each byte once, by an automaton with these commits
 pub record IsLawful {A M : Type 0} (seen : A → AutomatonView) (o : Onward A M) : Type 0 where
-  pub on : reads_on (seen o.automaton.now).built ≡ true
-  pub starts : (seen o.automaton.now).stands No o.start (Some [])
-  pub commits : AreCommits (seen o.automaton.now) o.commits.now
-  pub skips : IfSome o.first (λ f. SkipsToFirst (seen o.automaton.now) (first_bytes_of f))
-  pub needle : IfSome o.needle (λ n. SkipsToOnly (seen o.automaton.now) n.now)
+  pub past : o.core.stops ≡ false
+  pub on : reads_on (seen o.core.automaton.now).built ≡ true
+  pub starts : (seen o.core.automaton.now).stands No o.core.start (Some [])
+  pub commits : AreCommits (seen o.core.automaton.now) o.core.commits.now
+  pub skips : IfSome o.first (λ f. SkipsToFirst (seen o.core.automaton.now) (first_bytes_of f))
+  pub needle : IfSome o.needle (λ n. SkipsToOnly (seen o.core.automaton.now) n.now)
 
 -- where it stands has changed, and nothing else
 abbrev pub KeepsOnward : {A M : Type 0} → Onward A M → Onward A M → Type 0
@@ -267,10 +295,10 @@ KeepsOnward old new =
 
 module _ {A M : Type 0} (seen : A → AutomatonView) (o : Onward A M) where
   abbrev pub view : AutomatonView
-  view = seen o.automaton.now
+  view = seen o.core.automaton.now
 
   abbrev pub chains : List (List ChainMatch)
-  chains = o.commits.now.chains
+  chains = o.core.commits.now.chains
 
   -- the search of a span of some bytes
   abbrev pub search_in : List ℕ → ℕ → ℕ → Search
@@ -361,15 +389,15 @@ module _ {A M : Type 0} (seen : A → AutomatonView) (o : Onward A M) where
 -- it has counted is paid
 pub record IsReadingPast {A M : Type 0} (seen : A → AutomatonView) (o : Onward A M) (finding : Finding) (tape : Taped) (span : Span)
     (last : Option ℕ) (start : ℕ) (counts : Counts) : Type 0 where
-  pub finds : finding ≡ finding_of (seen o.automaton.now) No false
+  pub finds : finding ≡ finding_of (seen o.core.automaton.now) No false
   pub lawful : IsLawful seen o
   pub begun : start ≤ span.start
   pub legal : span.start ≤ span.end + 1
   pub beyond : IfSome last (λ e. e ≤ span.start)
-  pub sound : span.start ≤ span.end → IsRestBefore o.commits.now.chains span.start o.rest
+  pub sound : span.start ≤ span.end → IsRestBefore o.core.commits.now.chains span.start o.rest
   pub onward : span.start ≤ span.end
-      → IsOnwardIn (seen o.automaton.now) tape span.start span.end start
-      (pending (seen o.automaton.now).built o.commits.now.chains o.rest) o.cursor o.byte counts
+      → IsOnwardIn (seen o.core.automaton.now) tape span.start span.end start
+      (pending (seen o.core.automaton.now).built o.core.commits.now.chains o.rest) o.cursor o.byte counts
   pub ended : span.end < span.start → IsPaidOnce (walking_of finding tape.bytes span last start (work_of tape counts))
 
 -- a walk as its iterator keeps it: one by finds is under way, and one that reads on past its matches stands somewhere
@@ -381,8 +409,8 @@ pub record IsKept {A M : Type 0} (seen : A → AutomatonView) (finding : Finding
 
 -- it is at its start, at the beginning of a span
 pub record BeginsPast {A M : Type 0} (seen : A → AutomatonView) (finding : Finding) (at : ℕ) (o : Onward A M) : Type 0 where
-  pub finds : finding ≡ finding_of (seen o.automaton.now) No false
+  pub finds : finding ≡ finding_of (seen o.core.automaton.now) No false
   pub lawful : IsLawful seen o
-  pub cursor : o.cursor ≡ record { state = o.start; at = at }
+  pub cursor : o.cursor ≡ record { state = o.core.start; at = at }
   pub byte : o.byte ≡ None
   pub rest : o.rest ≡ None

@@ -9,8 +9,8 @@ use Rattle.ac_automaton.specs.declared.automaton.onward.ChainRest.{ChainRest}
 use Rattle.ac_automaton.specs.declared.automaton.onward.Given.{Given}
 use Rattle.ac_automaton.specs.Automata.{AutomatonView, plain_of}
 use Rattle.ac_automaton.specs.Commits.{CommitsView, HasCommits}
-use Rattle.ac_automaton.specs.Onward.{GivesOf, IsRestBefore, pending}
-use Rattle.ac_automaton.specs.Scans.{Reaches, search_of}
+use Rattle.ac_automaton.specs.Onward.{GivesAt, IsRestBefore, pending}
+use Rattle.ac_automaton.specs.Scans.{search_of}
 
 -- what its automaton was built from; all bytes that were read so far; how many of their matches were given; where in the
 -- stream the buffer begins, and from where on its bytes are kept; whether the stream goes on; how many bytes the buffer has
@@ -227,18 +227,13 @@ pub record HasGiven (phase : Phase) (built : Built) (bytes : List ℕ) (given be
 abbrev pub GivesEarly : Streaming → Type 0
 GivesEarly v = v.built.kind ≡ Standard → v.given ≡ length (matches_so_far v)
 
--- a search that picks has read on in the buffer to an offset: its state there, and what it picks so far, which starts after what
--- isn't kept any more
-pub record HasReadOn (stands : ℕ → Node → Type 0) (i : Inside) (v : Streaming) (state at : ℕ) (picked : Option Occurrence)
-    : Type 0 where
-  pub within : at ≤ i.filled
-  pub onward : i.at ≤ at
-  pub is_at : Reaches stands v.built.kind (stream_from v.built v.bytes i.begun) state (v.front + at)
-  pub picks : picked ≡ pick v.built.kind (record (stream_from v.built v.bytes i.begun) { high = v.front + at })
-  pub after : IfSome picked (λ m. v.kept ≤ m.start)
+-- under Standard no match was passed: none of a chain is left, and what was read since the last one has none
+pub record HasPassedNone (i : Inside) (v : Streaming) : Type 0 where
+  pub left : i.rest ≡ None
+  pub none : pick v.built.kind (record (stream_from v.built v.bytes i.begun) { high = v.front + i.at }) ≡ None
 
--- under a leftmost kind a search stands at a node past the matches of a chain that it is still to give, whichever bytes follow, or
--- none once the end was met; while some are left bytes are kept from the last match given on
+-- a search stands at a node past the matches of a chain that it is still to give, whichever bytes follow, or none once the end was
+-- met; while some are left bytes are kept from the last match given on
 pub record StandsPast (stands : ℕ → Node → Type 0) (chains : List (List ChainMatch)) (i : Inside) (v : Streaming) : Type 0 where
   pub node : List ℕ
   pub there : stands i.state (Some node)
@@ -247,6 +242,7 @@ pub record StandsPast (stands : ℕ → Node → Type 0) (chains : List (List Ch
       (v.front + i.at)
   pub sound : IsRestBefore chains i.begun i.rest
   pub near : IfSome i.rest (λ r. v.kept ≤ i.begun)
+  pub first : v.built.kind ≡ Standard → HasPassedNone i v
 
 -- the end was met, all was searched, and no match is left
 pub record IsOver (i : Inside) (v : Streaming) : Type 0 where
@@ -269,8 +265,7 @@ pub record IsStreaming (stands : ℕ → Node → Type 0) (chains : List (List C
   pub holds : take i.filled i.buffer ≡ drop v.front v.bytes
   pub within : i.at ≤ i.filled
   pub read : i.begun ≤ v.front + i.at
-  pub searched : v.built.kind ≡ Standard → HasReadOn stands i v i.state i.at None
-  pub past : is_leftmost v.built.kind ≡ true → StandsPast stands chains i v
+  pub past : StandsPast stands chains i v
   pub given : HasGiven v.phase v.built v.bytes v.given i.begun
   pub all : v.phase ≡ Ended → GivesEarly v
   pub failed : v.phase ≡ Failed → HasGivenSettled v v
@@ -285,13 +280,15 @@ pub record IsSearching (a : AutomatonView) (c : CommitsView) (i : Inside) (v : S
   pub commits : HasCommits a c
   pub streams : IsStreaming (a.stands No) c.chains i v
 
--- that is given which leaves a state, for each node for which it stands: a byte came that leads to the dead node, or the stream has
--- ended. Or neither is so, or nothing is picked in that node
-abbrev pub GivesSettled : AutomatonView → List (List ChainMatch) → ℕ → Option ℕ → Phase → Option Given → Type 0
-GivesSettled a chains s byte phase result =
-    MatchOption result
-    (((byte ≡ None) × (phase ≢ Ended)) ⊎ GivesOf a chains s None)
-    (λ given. ((byte ≢ None) ⊎ (phase ≡ Ended)) × GivesOf a chains s (Some given))
+-- what a state gives is settled: the search stops at a match, or a byte came that leads to the dead node, or the stream has ended
+abbrev pub SettlesBy : Bool → Option ℕ → Phase → Type 0
+SettlesBy stops byte phase = (stops ≡ true) ⊎ ((byte ≢ None) ⊎ (phase ≡ Ended))
+
+-- that is given which leaves a state, where it is settled
+abbrev pub GivesSettled : AutomatonView → List (List ChainMatch) → ℕ → Bool → ℕ → Option ℕ → Phase → Option Given → Type 0
+GivesSettled a chains start stops s byte phase result =
+    MatchOption result (SettlesBy stops byte phase → GivesAt a chains start stops s None)
+    (λ given. SettlesBy stops byte phase × GivesAt a chains start stops s (Some given))
 
 -- what is seen of an iterator over the matches of a stream: the search, and its reader
 pub record StreamReading : Type 0 where

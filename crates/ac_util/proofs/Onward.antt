@@ -1,4 +1,4 @@
--- A walk that has read on past the matches that it is about to give: it gives them, reads on, and finds the next ones.
+-- A walk that reads on, past the matches that it is about to give: it gives them, and finds the next ones.
 use Rattle.std.proofs.Common.{◌≡◌, ℕ, subst, ◌+◌, ◌-◌, ◌<◌, ◌≤◌, true, List, [], ◌∷◌, ◌++◌, length, slice_range, slice_index, drop, map, refl, ap, sym, ◌∙◌, arith, Option, None, Some, append_assoc}
 use Rattle.std.proofs.lemmas.List.{append-nil, take-append-drop}
 use Rattle.ac_util.specs.Prelude.{from, is_leftmost, last_end, matches, MatchKind, No, Node, Occurrence, outward, pattern_of, pick, plain, plain_byte, reached, Search, step, text, walk}
@@ -50,8 +50,7 @@ parts-next q at low before inside =
     ∙ ap (λ (w : List ℕ). w ++ drop (at + 1 - q.low) (text q)) (text_longer (record q { high = at }) low (omega arith))
     ∙ append_assoc (text (record q { high = at })) (byte_at q at ∷ []) (drop (at + 1 - q.low) (text q))
 
-module _ (kind : MatchKind) (patterns : List (List ℕ)) (leftmost : is_leftmost kind ≡ true)
-    (some : (n : ℕ) → n < length patterns → 0 < length (pattern_of patterns n)) where
+module _ (kind : MatchKind) (patterns : List (List ℕ)) where
   -- a walk that begins has read nothing
   pub after-start : (q : Search) → IsSearchFor patterns q → StandsAfter kind patterns q [] [] q.low
   after-start q is = record {
@@ -61,6 +60,28 @@ module _ (kind : MatchKind) (patterns : List (List ℕ)) (leftmost : is_leftmost
     stands = ap (reached kind patterns No) (text-empty (record q { high = q.low }) refl) ∙ reached-nil kind patterns No;
   }
 
+  -- where a byte leads that is read
+  pub step-byte : (q : Search) → q.low ≤ q.high → q.high < length q.haystack
+      → step kind patterns No (reached kind patterns No (text q)) (byte_at q q.high)
+      ≡ reached kind patterns No (text (record q { high = q.high + 1 }))
+  step-byte q ordered room =
+      step-reached kind patterns No (text q) (byte_at q q.high) ∙ ap (reached kind patterns No) (sym (text_longer q ordered room))
+
+  -- a byte that leads on leads to where it has read that too
+  pub after-byte : (q : Search) (ms : List Occurrence) (v u : List ℕ) (at : ℕ) → IsSearchFor patterns q
+      → StandsAfter kind patterns q ms v at → at < q.high → step kind patterns No (Some v) (byte_at q at) ≡ Some u
+      → StandsAfter kind patterns q ms u (at + 1)
+  after-byte q ms v u at is s before leads = record {
+    gives = s.gives;
+    within = (let w = s.within in omega arith);
+    inside = omega arith;
+    stands =
+        sym (step-byte (record q { low = end_after q.low ms; high = at }) s.within (let i = is.inside in omega arith))
+        ∙ ap (λ (n : Node). step kind patterns No n (byte_at q at)) s.stands ∙ leads;
+  }
+
+module _ (kind : MatchKind) (patterns : List (List ℕ)) (leftmost : is_leftmost kind ≡ true)
+    (some : (n : ℕ) → n < length patterns → 0 < length (pattern_of patterns n)) where
   -- the first of the matches is the pick, and the walk goes on with the others
   pub record GivesFirst (q : Search) (m : Occurrence) (ms : List Occurrence) (v : List ℕ) (at : ℕ) : Type 0 where
     pub picked : pick kind q ≡ Some m
@@ -96,26 +117,6 @@ module _ (kind : MatchKind) (patterns : List (List ℕ)) (leftmost : is_leftmost
       let low = o.from_low in let long = o.as_long in let high = o.to_high in
       let rest = after-low (from q m.end) ms v at (record { free = is.free; ordered = high; inside = is.inside; same = is.same }) first.later in
       omega arith
-
-  -- where a byte leads that is read
-  step-byte : (q : Search) → q.low ≤ q.high → q.high < length q.haystack
-      → step kind patterns No (reached kind patterns No (text q)) (byte_at q q.high)
-      ≡ reached kind patterns No (text (record q { high = q.high + 1 }))
-  step-byte q ordered room =
-      step-reached kind patterns No (text q) (byte_at q q.high) ∙ ap (reached kind patterns No) (sym (text_longer q ordered room))
-
-  -- a byte that leads on leads to where it has read that too
-  pub after-byte : (q : Search) (ms : List Occurrence) (v u : List ℕ) (at : ℕ) → IsSearchFor patterns q
-      → StandsAfter kind patterns q ms v at → at < q.high → step kind patterns No (Some v) (byte_at q at) ≡ Some u
-      → StandsAfter kind patterns q ms u (at + 1)
-  after-byte q ms v u at is s before leads = record {
-    gives = s.gives;
-    within = (let w = s.within in omega arith);
-    inside = omega arith;
-    stands =
-        sym (step-byte (record q { low = end_after q.low ms; high = at }) s.within (let i = is.inside in omega arith))
-        ∙ ap (λ (n : Node). step kind patterns No n (byte_at q at)) s.stands ∙ leads;
-  }
 
   module _ (q : Search) (v : List ℕ) (at : ℕ) (is : IsSearchFor patterns q) (s : StandsAfter kind patterns q [] v at) where
     -- what was read since the match before

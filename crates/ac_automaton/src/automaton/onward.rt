@@ -40,12 +40,21 @@ pub(super) struct Given {
     pub(super) chain: Option<usize>,
 }
 
+/// A search that reads on past its matches: its automaton with the commits, the state at which it begins, and whether it stops at
+/// a match.
+#[derive(Drop)]
+pub(super) struct Core<'a, A: Automaton> {
+    pub(super) automaton: &'a A,
+    pub(super) commits: &'a Commits<A::Memory>,
+    pub(super) start: StateID,
+    /// Whether the first match found is given.
+    pub(super) stops: bool,
+}
+
 /// A walk that reads each byte once.
 #[derive(Drop)]
 pub(super) struct Onward<'a, A: Automaton> {
-    automaton: &'a A,
-    commits: &'a Commits<A::Memory>,
-    start: StateID,
+    core: Core<'a, A>,
     cursor: Cursor,
     /// The byte at the cursor where that was read, and didn't lead on.
     byte: Option<u8>,
@@ -74,9 +83,12 @@ impl<'a, A: Automaton> Onward<'a, A> {
         ensures begins { BeginsPast A.seen (finding_of (A.seen automaton.now) No false) at result }
     {
         Onward {
-            automaton,
-            commits: automaton.commits(),
-            start,
+            core: Core {
+                automaton,
+                commits: automaton.commits(),
+                start,
+                stops: false,
+            },
             cursor: Cursor { state: start, at },
             byte: None,
             rest: None,
@@ -116,7 +128,7 @@ impl<'a, A: Automaton> Onward<'a, A> {
         ensures same { self.new ≡ record self.old { rest = self.new.rest } }
         ensures takes { TakesNext A.seen self.old result self.new.rest }
     {
-        take_next(self.automaton, self.commits.chains(), &mut self.rest)
+        take_next(self.core.automaton, self.core.commits.chains(), &mut self.rest)
     }
 
     /// Gives the next match of the only pattern, and goes on after it.
@@ -129,8 +141,8 @@ impl<'a, A: Automaton> Onward<'a, A> {
         looks: &mut Looks,
     ) -> Option<Match>
         requires lawful { IsLawful A.seen self.old }
-        requires needle { SkipsToOnly (A.seen self.old.automaton.now) needle.now }
-        requires may { MayReadOn (A.seen self.old.automaton.now) tape.old end self.old.cursor self.old.byte looks.old }
+        requires needle { SkipsToOnly (A.seen self.old.core.automaton.now) needle.now }
+        requires may { MayReadOn (A.seen self.old.core.automaton.now) tape.old end self.old.cursor self.old.byte looks.old }
         ensures same { KeepsOnward self.old self.new }
         ensures bytes { tape.new.bytes ≡ tape.old.bytes }
         ensures gives { GivesFrom A.seen self.old tape.old end looks.old result self.new tape.new looks.new }
@@ -144,7 +156,8 @@ impl<'a, A: Automaton> Onward<'a, A> {
     /// Reads on up to where a call of the prefilter pays and may be made: the automaton is at its start with nothing in hand,
     /// and a byte is left. Returns whether it has come to such a place; else it has read on as `read_on` does.
     fn read_to_start(&mut self, end: usize, tape: &mut Tape<'_>, looks: &mut Looks) -> bool
-        requires may { MayReadOn (A.seen self.old.automaton.now) tape.old end self.old.cursor self.old.byte looks.old }
+        requires past { self.old.core.stops ≡ false }
+        requires may { MayReadOn (A.seen self.old.core.automaton.now) tape.old end self.old.cursor self.old.byte looks.old }
         ensures same { KeepsOnward self.old self.new }
         ensures rest { self.new.rest ≡ self.old.rest }
         ensures reads { ReadsToStart A.seen self.old tape.old end looks.old result self.new tape.new looks.new }
@@ -175,7 +188,7 @@ impl<'a, A: Automaton> Onward<'a, A> {
         looks: &mut Looks,
     ) -> Option<Match>
         requires finds { MayFindOnly A.seen self.old end needle.now }
-        requires may { MayReadOn (A.seen self.old.automaton.now) tape.now end self.old.cursor self.old.byte looks.old }
+        requires may { MayReadOn (A.seen self.old.core.automaton.now) tape.now end self.old.cursor self.old.byte looks.old }
         ensures same { KeepsOnward self.old self.new }
         ensures gives { GivesFrom A.seen self.old tape.now end looks.old result self.new tape.now looks.new }
     {
@@ -192,11 +205,12 @@ impl<'a, A: Automaton> Onward<'a, A> {
 
     /// Reads on as far as it has to: up to a byte that leads to the dead state, which it then has in hand, or up to an end.
     fn read_on(&mut self, end: usize, tape: &mut Tape<'_>, looks: &mut Looks)
-        requires skips { IfSome self.old.first (λ f. SkipsToFirst (A.seen self.old.automaton.now) (first_bytes_of f)) }
-        requires may { MayReadOn (A.seen self.old.automaton.now) tape.old end self.old.cursor self.old.byte looks.old }
+        requires past { self.old.core.stops ≡ false }
+        requires skips { IfSome self.old.first (λ f. SkipsToFirst (A.seen self.old.core.automaton.now) (first_bytes_of f)) }
+        requires may { MayReadOn (A.seen self.old.core.automaton.now) tape.old end self.old.cursor self.old.byte looks.old }
         ensures same { KeepsOnward self.old self.new }
         ensures rest { self.new.rest ≡ self.old.rest }
-        ensures reads { ReadsOn (A.seen self.old.automaton.now) tape.old end self.old.cursor self.old.byte looks.old
+        ensures reads { ReadsOn (A.seen self.old.core.automaton.now) tape.old end self.old.cursor self.old.byte looks.old
             self.new.cursor self.new.byte tape.new looks.new }
     {
         if !self.try_byte(looks) {
@@ -209,20 +223,20 @@ impl<'a, A: Automaton> Onward<'a, A> {
     /// stays.
     #[inline]
     fn try_byte(&mut self, looks: &mut Looks) -> bool
-        requires on { reads_on (A.seen self.old.automaton.now).built ≡ true }
-        requires state { IsState ((A.seen self.old.automaton.now).stands No) self.old.cursor.state }
+        requires on { reads_on (A.seen self.old.core.automaton.now).built ≡ true }
+        requires state { IsState ((A.seen self.old.core.automaton.now).stands No) self.old.cursor.state }
         requires small { IfSome self.old.byte (λ b. self.old.cursor.at < usize_max) }
         ensures same { self.new ≡ record self.old { cursor = self.new.cursor; byte = self.new.byte } }
         ensures empty { result ≡ true → self.new.byte ≡ None }
-        ensures tries { TriesByte (A.seen self.old.automaton.now) self.old.cursor self.old.byte looks.old result
+        ensures tries { TriesByte (A.seen self.old.core.automaton.now) self.old.cursor self.old.byte looks.old result
             self.new.cursor self.new.byte looks.new }
     {
         let Some(byte) = self.byte else {
             return true;
         };
         let state = self.cursor.state;
-        let next = self.automaton.next_state(Anchored::No, state, byte, looks);
-        if self.automaton.is_dead(next) {
+        let next = self.core.automaton.next_state(Anchored::No, state, byte, looks);
+        if self.core.automaton.is_dead(next) {
             return false;
         }
         self.cursor = Cursor {
@@ -236,15 +250,16 @@ impl<'a, A: Automaton> Onward<'a, A> {
     /// Reads on as `read_alive` does. It skips ahead to the first bytes where some are given and that pays.
     #[inline]
     fn read_or_skip(&mut self, end: usize, tape: &mut Tape<'_>, looks: &mut Looks) -> Option<u8>
-        requires skips { IfSome self.old.first (λ f. SkipsToFirst (A.seen self.old.automaton.now) (first_bytes_of f)) }
-        requires may { MayReadUpTo (A.seen self.old.automaton.now) tape.old end self.old.cursor looks.old }
+        requires past { self.old.core.stops ≡ false }
+        requires skips { IfSome self.old.first (λ f. SkipsToFirst (A.seen self.old.core.automaton.now) (first_bytes_of f)) }
+        requires may { MayReadUpTo (A.seen self.old.core.automaton.now) tape.old end self.old.cursor looks.old }
         ensures same { self.new ≡ record self.old { cursor = self.new.cursor; budget = self.new.budget } }
-        ensures reads { ReadsUpTo (A.seen self.old.automaton.now) tape.old end self.old.cursor looks.old
+        ensures reads { ReadsUpTo (A.seen self.old.core.automaton.now) tape.old end self.old.cursor looks.old
             self.new.cursor result tape.new looks.new }
     {
         match self.first {
             Some(first) => self.skip_alive(first, end, tape, looks),
-            None => read_alive(self.automaton, end, &mut self.cursor, tape, looks),
+            None => self.core.read_alive(end, &mut self.cursor, tape, looks),
         }
     }
 
@@ -257,10 +272,11 @@ impl<'a, A: Automaton> Onward<'a, A> {
         tape: &mut Tape<'_>,
         looks: &mut Looks,
     ) -> Option<u8>
-        requires skips { SkipsToFirst (A.seen self.old.automaton.now) (first_bytes_of first) }
-        requires may { MayReadUpTo (A.seen self.old.automaton.now) tape.old end self.old.cursor looks.old }
+        requires past { self.old.core.stops ≡ false }
+        requires skips { SkipsToFirst (A.seen self.old.core.automaton.now) (first_bytes_of first) }
+        requires may { MayReadUpTo (A.seen self.old.core.automaton.now) tape.old end self.old.cursor looks.old }
         ensures same { self.new ≡ record self.old { cursor = self.new.cursor; budget = self.new.budget } }
-        ensures reads { ReadsUpTo (A.seen self.old.automaton.now) tape.old end self.old.cursor looks.old
+        ensures reads { ReadsUpTo (A.seen self.old.core.automaton.now) tape.old end self.old.cursor looks.old
             self.new.cursor result tape.new looks.new }
     {
         while self.cursor.at < end {
@@ -279,24 +295,25 @@ impl<'a, A: Automaton> Onward<'a, A> {
     /// Returns whether a call of the prefilter pays and may be made: the automaton is at its start.
     #[inline]
     fn is_to_skip(&self) -> bool
-        requires state { IsState ((A.seen self.now.automaton.now).stands No) self.now.cursor.state }
-        ensures { result ≡ true → IsAtStart (A.seen self.now.automaton.now) self.now.cursor.state }
+        requires state { IsState ((A.seen self.now.core.automaton.now).stands No) self.now.cursor.state }
+        ensures { result ≡ true → IsAtStart (A.seen self.now.core.automaton.now) self.now.cursor.state }
     {
-        self.budget.is_left() && self.automaton.is_start(self.cursor.state)
+        self.budget.is_left() && self.core.automaton.is_start(self.cursor.state)
     }
 
     /// Reads on without the prefilter for a while, by a byte at least, or to one that leads to the dead state.
     #[inline]
     fn read_rest(&mut self, end: usize, tape: &mut Tape<'_>, looks: &mut Looks) -> Option<u8>
-        requires may { MayReadUpTo (A.seen self.old.automaton.now) tape.old end self.old.cursor looks.old }
+        requires past { self.old.core.stops ≡ false }
+        requires may { MayReadUpTo (A.seen self.old.core.automaton.now) tape.old end self.old.cursor looks.old }
         requires before { self.old.cursor.at < end }
         ensures same { self.new ≡ record self.old { cursor = self.new.cursor; budget = self.new.budget } }
-        ensures reads { ReadsFurther (A.seen self.old.automaton.now) tape.old end self.old.cursor looks.old
+        ensures reads { ReadsFurther (A.seen self.old.core.automaton.now) tape.old end self.old.cursor looks.old
             self.new.cursor result tape.new looks.new }
     {
         let from = self.cursor.at;
         let to = self.budget.rest_end(from, end);
-        let byte = read_alive(self.automaton, to, &mut self.cursor, tape, looks);
+        let byte = self.core.read_alive(to, &mut self.cursor, tape, looks);
         self.budget.record_rest(self.cursor.at - from);
         byte
     }
@@ -311,12 +328,12 @@ impl<'a, A: Automaton> Onward<'a, A> {
         tape: &mut Tape<'_>,
         looks: &mut Looks,
     ) -> Option<u8>
-        requires skips { SkipsToFirst (A.seen self.old.automaton.now) (first_bytes_of first) }
-        requires may { MayReadUpTo (A.seen self.old.automaton.now) tape.old end self.old.cursor looks.old }
+        requires skips { SkipsToFirst (A.seen self.old.core.automaton.now) (first_bytes_of first) }
+        requires may { MayReadUpTo (A.seen self.old.core.automaton.now) tape.old end self.old.cursor looks.old }
         requires before { self.old.cursor.at < end }
-        requires at_start { IsAtStart (A.seen self.old.automaton.now) self.old.cursor.state }
+        requires at_start { IsAtStart (A.seen self.old.core.automaton.now) self.old.cursor.state }
         ensures same { self.new ≡ record self.old { cursor = self.new.cursor; budget = self.new.budget } }
-        ensures reads { ReadsFurther (A.seen self.old.automaton.now) tape.old end self.old.cursor looks.old
+        ensures reads { ReadsFurther (A.seen self.old.core.automaton.now) tape.old end self.old.cursor looks.old
             self.new.cursor result tape.new looks.new }
     {
         let from = self.cursor.at;
@@ -328,8 +345,8 @@ impl<'a, A: Automaton> Onward<'a, A> {
         self.cursor.at = next;
         let byte = tape.read(next, looks);
         let state = self.cursor.state;
-        let led = self.automaton.next_state(Anchored::No, state, byte, looks);
-        if self.automaton.is_dead(led) {
+        let led = self.core.automaton.next_state(Anchored::No, state, byte, looks);
+        if self.core.automaton.is_dead(led) {
             return Some(byte);
         }
         self.cursor = Cursor {
@@ -345,12 +362,11 @@ impl<'a, A: Automaton> Onward<'a, A> {
         ensures same { KeepsOnward self.old self.new }
         ensures gives { GivesNext A.seen self.old result self.new }
     {
-        let Some(given) = given_at(self.automaton, self.commits, self.start, self.cursor.state)
-        else {
+        let Some(given) = self.core.given_at(self.cursor.state) else {
             return None;
         };
         let end = self.cursor.at - given.rest;
-        let found = match_ending(self.automaton, given.pattern, end);
+        let found = match_ending(self.core.automaton, given.pattern, end);
         self.cursor.state = given.next;
         self.rest = chain_rest(given.chain, end);
         Some(found)
@@ -387,37 +403,86 @@ pub(super) fn match_ending<A: Automaton>(automaton: &A, pattern: PatternID, end:
     )
 }
 
-/// Returns what is given that leaves a state, or `None` where nothing is picked in its string.
-#[inline]
-pub(super) fn given_at<A: Automaton>(
-    automaton: &A,
-    commits: &Commits<A::Memory>,
-    start: StateID,
-    state: StateID,
-) -> Option<Given>
-    requires on { reads_on (A.seen automaton.now).built ≡ true }
-    requires starts { (A.seen automaton.now).stands No start (Some []) }
-    requires commits { AreCommits (A.seen automaton.now) commits.now }
-    requires state { IsState ((A.seen automaton.now).stands No) state }
-    ensures { GivesOf (A.seen automaton.now) commits.now.chains state result }
-{
-    if automaton.is_match(state) {
-        return Some(Given {
-            pattern: automaton.match_pattern(state, 0),
-            rest: 0,
-            next: start,
-            chain: None,
-        });
+impl<'a, A: Automaton> Core<'a, A> {
+    ghost use Rattle.ac_automaton.specs.Onward.{GivesAt, IsCore, TellsStop};
+
+    /// Reads on up to a byte that leads to the dead state, which it returns, or up to an offset, or if it stops at a match to a
+    /// state that has some. The cursor stays before that byte.
+    #[inline]
+    pub(super) fn read_alive(
+        &self,
+        to: usize,
+        cursor: &mut Cursor,
+        tape: &mut Tape<'_>,
+        looks: &mut Looks,
+    ) -> Option<u8>
+        requires may { MayReadAlive (A.seen self.now.automaton.now) tape.old to cursor.old }
+        ensures reads { self.now.stops ≡ false
+            → ReadsUpTo (A.seen self.now.automaton.now) tape.old to cursor.old looks.old cursor.new result tape.new looks.new }
+        ensures comes { ReadsAlive (A.seen self.now.automaton.now) self.now.stops tape.old.bytes to cursor.old cursor.new result }
+    {
+        let (mut state, mut at) = (cursor.state, cursor.at);
+        while at < to {
+            let byte = tape.read(at, looks);
+            let next = self.automaton.next_state(Anchored::No, state, byte, looks);
+            if self.is_to_stop(next) {
+                if self.automaton.is_dead(next) {
+                    *cursor = Cursor { state, at };
+                    return Some(byte);
+                }
+                let at = at + 1;
+                *cursor = Cursor { state: next, at };
+                return None;
+            }
+            state = next;
+            at += 1;
+        }
+        *cursor = Cursor { state, at };
+        None
     }
-    let Some(commit) = commits.of(state) else {
-        return None;
-    };
-    Some(Given {
-        pattern: commit.pattern,
-        rest: commit.rest,
-        next: commit.next,
-        chain: Some(commit.chain),
-    })
+
+    /// Returns whether nothing is to be read on from a state: it is dead, or has matches where the search stops at one.
+    #[inline]
+    fn is_to_stop(&self, state: StateID) -> bool
+        requires state { IsState ((A.seen self.now.automaton.now).stands No) state }
+        ensures { TellsStop (A.seen self.now.automaton.now) self.now.stops state result }
+    {
+        if self.stops {
+            self.automaton.is_match_or_dead(state)
+        } else {
+            self.automaton.is_dead(state)
+        }
+    }
+
+    /// Returns what is given that leaves a state, or `None` where nothing is picked in its string, or if the search stops at a
+    /// match where the state has none.
+    #[inline]
+    pub(super) fn given_at(&self, state: StateID) -> Option<Given>
+        requires core { IsCore (A.seen self.now.automaton.now) self.now.commits.now self.now.start self.now.stops }
+        requires state { IsState ((A.seen self.now.automaton.now).stands No) state }
+        ensures { GivesAt (A.seen self.now.automaton.now) self.now.commits.now.chains self.now.start self.now.stops state result }
+    {
+        if self.automaton.is_match(state) {
+            return Some(Given {
+                pattern: self.automaton.match_pattern(state, 0),
+                rest: 0,
+                next: self.start,
+                chain: None,
+            });
+        }
+        if self.stops {
+            return None;
+        }
+        let Some(commit) = self.commits.of(state) else {
+            return None;
+        };
+        Some(Given {
+            pattern: commit.pattern,
+            rest: commit.rest,
+            next: commit.next,
+            chain: Some(commit.chain),
+        })
+    }
 }
 
 /// Returns the next match of a chain, if one is left, and what is to be given after it.
@@ -443,32 +508,4 @@ pub(super) fn take_next<A: Automaton>(
         base: old.base,
     });
     Some(match_ending(automaton, known.pattern, old.base + known.end))
-}
-
-/// Reads on up to a byte that leads to the dead state, which it returns, or up to an offset. The cursor stays before that byte.
-#[inline]
-pub(super) fn read_alive<A: Automaton>(
-    automaton: &A,
-    to: usize,
-    cursor: &mut Cursor,
-    tape: &mut Tape<'_>,
-    looks: &mut Looks,
-) -> Option<u8>
-    requires may { MayReadAlive (A.seen automaton.now) tape.old to cursor.old }
-    ensures reads { ReadsUpTo (A.seen automaton.now) tape.old to cursor.old looks.old cursor.new result tape.new looks.new }
-    ensures comes { ReadsAlive (A.seen automaton.now) tape.old.bytes to cursor.old cursor.new result }
-{
-    let (mut state, mut at) = (cursor.state, cursor.at);
-    while at < to {
-        let byte = tape.read(at, looks);
-        let next = automaton.next_state(Anchored::No, state, byte, looks);
-        if automaton.is_dead(next) {
-            *cursor = Cursor { state, at };
-            return Some(byte);
-        }
-        state = next;
-        at += 1;
-    }
-    *cursor = Cursor { state, at };
-    None
 }

@@ -9,16 +9,15 @@ ghost use Rattle.ac_automaton.specs.declared.automaton.stream_settled.Phase.TheV
 ghost use Rattle.ac_automaton.specs.Streams.{Fills, HasGivenSettled, GivesLast, GivesRead, GivesSettled, StreamsOn, kept_len, initial_stream};
 
 use super::Automaton;
-use super::commits::Commits;
-use super::onward::{ChainRest, Given, chain_rest, given_at, match_ending, read_alive, take_next};
-use super::scan::{Cursor, Scanner};
+use super::onward::{ChainRest, Core, Given, chain_rest, match_ending, take_next};
+use super::scan::Cursor;
 use super::stream_settled::{Phase, buffer_len, most_kept, settled_from};
 use ac_util::device::Source;
 use ac_util::error::{MatchError, StreamError};
 use ac_util::history::History;
 use ac_util::looks::open;
 use ac_util::primitives::StateID;
-use ac_util::search::{Anchored, Input, Match, MatchKind, Span};
+use ac_util::search::{Anchored, Input, Match, MatchKind};
 use ac_util::tally::Tally;
 use std::alloc::Allocator;
 use std::io;
@@ -40,12 +39,7 @@ use std::snapshot::Snapshot;
 /// See the example of `StreamFinder` of `ac_search`.
 #[derive(Drop)]
 pub struct StreamFinder<'a, A: Automaton, Z: Allocator> {
-    automaton: &'a A,
-    commits: &'a Commits<A::Memory>,
-    /// The state at which a search begins.
-    start: StateID,
-    /// Whether the first match found is given.
-    stops: bool,
+    core: Core<'a, A>,
     /// How many bytes may be kept back.
     reserve: usize,
     buffer: Vec<u8, Z>,
@@ -73,13 +67,13 @@ impl<'a, A: Automaton, Z: Allocator> Model for StreamFinder<'a, A, Z> {
 
     ghost Value = { Streaming };
 
-    ghost view = { λ f. streaming_by (A.seen f.automaton.now).built f.history.bytes f.given.number f.front f.kept f.phase
+    ghost view = { λ f. streaming_by (A.seen f.core.automaton.now).built f.history.bytes f.given.number f.front f.kept f.phase
         (length f.buffer.items) };
 
-    ghost invariant = { λ f. IsSearching (A.seen f.automaton.now) f.commits.now
+    ghost invariant = { λ f. IsSearching (A.seen f.core.automaton.now) f.core.commits.now
         (record {
-          start = f.start;
-          stops = f.stops;
+          start = f.core.start;
+          stops = f.core.stops;
           reserve = f.reserve;
           buffer = f.buffer.items;
           filled = f.filled;
@@ -88,7 +82,7 @@ impl<'a, A: Automaton, Z: Allocator> Model for StreamFinder<'a, A, Z> {
           rest = f.rest;
           begun = f.begun.value;
         })
-        (streaming_by (A.seen f.automaton.now).built f.history.bytes f.given.number f.front f.kept f.phase
+        (streaming_by (A.seen f.core.automaton.now).built f.history.bytes f.given.number f.front f.kept f.phase
         (length f.buffer.items)) };
 }
 
@@ -111,10 +105,12 @@ impl<'a, A: Automaton, Z: Allocator> StreamFinder<'a, A, Z> {
         let mut buffer = Vec::new(alloc);
         buffer.resize(buffer_len(longest), 0)?;
         Ok(StreamFinder {
-            automaton,
-            commits: automaton.commits(),
-            start,
-            stops,
+            core: Core {
+                automaton,
+                commits: automaton.commits(),
+                start,
+                stops,
+            },
             reserve: most_kept(stops, longest),
             buffer,
             filled: 0,
@@ -176,62 +172,8 @@ impl<'a, A: Automaton, Z: Allocator> StreamFinder<'a, A, Z> {
         if matches!(self.phase, Phase::Failed) {
             return None;
         }
-        if self.stops {
-            self.next_first()
-        } else {
-            self.next_past()
-        }
-    }
-
-    /// Returns the next match as `next_read` does where the first match found is given.
-    fn next_first(&mut self) -> Option<Match>
-        requires goes_on { self.old.phase ≢ Failed }
-        requires standard { self.old.built.kind ≡ Standard }
-        ensures { GivesRead self.old result self.new }
-    {
-        let scanner = Scanner {
-            automaton: self.automaton,
-            anchored: Anchored::No,
-            span: Span {
-                start: 0,
-                end: self.filled,
-            },
-            front: self.front,
-        };
-        let mut here = Cursor {
-            state: self.state,
-            at: self.at,
-        };
-        let (mut tape, mut looks) = open(&Input::new(&self.buffer[..self.filled]));
-        let cursor = &mut here;
-        let picked = scanner.pick_on(self.stops, cursor, None, &mut tape, &mut looks);
-        let (state, at) = (cursor.state, cursor.at);
-        match picked {
-            Some(found) => {
-                self.state = self.start;
-                self.at = found.end() - self.front;
-                self.begun = Snapshot::of(&found.end());
-                self.given = Tally::after(&self.given);
-                self.kept = found.end();
-                Some(found)
-            }
-            None => {
-                (self.state, self.at) = (state, at);
-                self.kept = settled_from(self.phase, self.kept, self.front + at, self.reserve);
-                None
-            }
-        }
-    }
-
-    /// Returns the next match as `next_read` does under a leftmost kind: the next one of a chain, or else the one that is
-    /// picked where a byte leads to the dead state, or where the stream has ended. That byte is tried again from the
-    /// state where the search then goes on, and no other is.
-    fn next_past(&mut self) -> Option<Match>
-        requires goes_on { self.old.phase ≢ Failed }
-        requires leftmost { is_leftmost self.old.built.kind ≡ true }
-        ensures { GivesRead self.old result self.new }
-    {
-        if let Some(found) = take_next(self.automaton, self.commits.chains(), &mut self.rest) {
+        let chains = self.core.commits.chains();
+        if let Some(found) = take_next(self.core.automaton, chains, &mut self.rest) {
             self.begun = Snapshot::of(&found.end());
             self.given = Tally::after(&self.given);
             self.kept = found.end();
@@ -241,18 +183,10 @@ impl<'a, A: Automaton, Z: Allocator> StreamFinder<'a, A, Z> {
             state: self.state,
             at: self.at,
         };
-        let byte = read_through(self.automaton, &self.buffer[..self.filled], &mut here);
+        let byte = self.core.read_through(&self.buffer[..self.filled], &mut here);
         self.at = here.at;
         let read = self.front + here.at;
-        let settled = given_settled(
-            self.automaton,
-            self.commits,
-            self.start,
-            here.state,
-            byte,
-            self.phase,
-        );
-        let Some(given) = settled else {
+        let Some(given) = self.core.given_settled(here.state, byte, self.phase) else {
             self.state = here.state;
             self.kept = settled_from(self.phase, self.kept, read, self.reserve);
             return None;
@@ -263,7 +197,7 @@ impl<'a, A: Automaton, Z: Allocator> StreamFinder<'a, A, Z> {
         self.begun = Snapshot::of(&end);
         self.given = Tally::after(&self.given);
         self.kept = end;
-        Some(match_ending(self.automaton, given.pattern, end))
+        Some(match_ending(self.core.automaton, given.pattern, end))
     }
 
     /// Reads more bytes into the buffer, and returns whether some came: else the end was met. All matches of what was read that
@@ -366,36 +300,30 @@ fn read_after<R: Source>(reader: &mut R, buffer: &mut [u8], filled: usize) -> io
     reader.read_some(&mut buffer[filled..])
 }
 
-/// Reads on in some bytes up to one that leads to the dead state, which it returns, or up to their end. The cursor stays before
-/// that byte.
-fn read_through<A: Automaton>(automaton: &A, bytes: &[u8], cursor: &mut Cursor) -> Option<u8>
-    requires on { reads_on (A.seen automaton.now).built ≡ true }
-    requires state { IsState ((A.seen automaton.now).stands No) cursor.old.state }
-    ensures { ReadsAlive (A.seen automaton.now) bytes.now (length bytes.now) cursor.old cursor.new result }
-{
-    let (mut tape, mut looks) = open(&Input::new(bytes));
-    read_alive(automaton, bytes.len(), cursor, &mut tape, &mut looks)
-}
+impl<'a, A: Automaton> Core<'a, A> {
+    ghost use Rattle.ac_automaton.specs.Onward.{IsCore};
 
-/// Returns what is given that leaves a state, if that is settled: where a byte was read that leads to the dead state, or the stream
-/// has ended.
-fn given_settled<A: Automaton>(
-    automaton: &A,
-    commits: &Commits<A::Memory>,
-    start: StateID,
-    state: StateID,
-    byte: Option<u8>,
-    phase: Phase,
-) -> Option<Given>
-    requires on { reads_on (A.seen automaton.now).built ≡ true }
-    requires starts { (A.seen automaton.now).stands No start (Some []) }
-    requires commits { AreCommits (A.seen automaton.now) commits.now }
-    requires state { IsState ((A.seen automaton.now).stands No) state }
-    ensures { GivesSettled (A.seen automaton.now) commits.now.chains state byte phase result }
-{
-    if byte.is_some() || matches!(phase, Phase::Ended) {
-        given_at(automaton, commits, start, state)
-    } else {
-        None
+    /// Reads on in some bytes up to their end, or as far as `read_alive` does.
+    fn read_through(&self, bytes: &[u8], cursor: &mut Cursor) -> Option<u8>
+        requires state { IsState ((A.seen self.now.automaton.now).stands No) cursor.old.state }
+        ensures { ReadsAlive (A.seen self.now.automaton.now) self.now.stops bytes.now (length bytes.now) cursor.old cursor.new result }
+    {
+        let (mut tape, mut looks) = open(&Input::new(bytes));
+        self.read_alive(bytes.len(), cursor, &mut tape, &mut looks)
+    }
+
+    /// Returns what is given that leaves a state, if that is settled: where the search stops at a match, a byte was read that
+    /// leads to the dead state, or the stream has ended.
+    fn given_settled(&self, state: StateID, byte: Option<u8>, phase: Phase) -> Option<Given>
+        requires core { IsCore (A.seen self.now.automaton.now) self.now.commits.now self.now.start self.now.stops }
+        requires state { IsState ((A.seen self.now.automaton.now).stands No) state }
+        ensures { GivesSettled (A.seen self.now.automaton.now) self.now.commits.now.chains self.now.start self.now.stops state
+            byte phase result }
+    {
+        if self.stops || byte.is_some() || matches!(phase, Phase::Ended) {
+            self.given_at(state)
+        } else {
+            None
+        }
     }
 }

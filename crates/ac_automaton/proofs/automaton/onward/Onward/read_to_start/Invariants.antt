@@ -7,7 +7,7 @@ abbrev pub invariant-loop-self : goal.invariant-loop-self
 invariant-loop-self g l = record {
   same : l.self ≡ record l.fn.self { cursor = l.self.cursor; byte = l.self.byte; budget = l.self.budget };
   empty : l.self.byte ≡ None;
-  comes : ComesOnward (g.A.Automaton.seen l.fn.self.automaton.now) l.fn.tape l.end l.fn.self.cursor l.fn.self.byte l.fn.looks
+  comes : ComesOnward (g.A.Automaton.seen l.fn.self.core.automaton.now) l.fn.tape l.end l.fn.self.cursor l.fn.self.byte l.fn.looks
       l.self.cursor l.tape l.looks;
 }
 

@@ -3,7 +3,7 @@ use Rattle.ac_automaton.specs.Util.{No, Node, Taped}
 use Rattle.ac_automaton.specs.Prelude.{AutomatonView, search_of, work_of}
 use Rattle.ac_automaton.specs.Onward.{IsOnwardIn, TakesByte}
 use Rattle.ac_automaton.proofs.OnwardSkips.{skipped-end, skipped-try}
-use Rattle.ac_automaton.proofs.OnwardSteps.{IsToTry, onward-next, stops-next, takes-read}
+use Rattle.ac_automaton.proofs.OnwardSteps.{dies-by, IsToTry, lives-by, onward-next, stops-next, takes-read}
 use Rattle.ac_automaton.proofs.automaton.onward.Onward.skip.Given.{Over}
 use Rattle.ac_automaton.proofs.automaton.onward.Onward.skip.Goals.{After-next_state-led}
 use Rattle.ac_automaton.proofs.automaton.onward.Onward.skip.Goals as goal
@@ -17,19 +17,19 @@ returns-in_default-clause-reads g c =
       onward = omega arith;
       moved = λ _. before;
       reads = λ low end start up inside onward.
-          skipped-end (g.A.Automaton.seen c.args.self.now.automaton.now) c.requires.may.on c.requires.skips c.args.tape.now.bytes low end start
+          skipped-end (g.A.Automaton.seen c.args.self.now.core.automaton.now) c.requires.may.on c.requires.skips c.args.tape.now.bytes low end start
           inside onward c.requires.at_start (omega arith) up c.in_default.ensures.first
           c.skip_to.ensures.counted before;
     }
 
 -- or to a byte, which is read and tried
 module _ (g : Over) (c : After-next_state-led g) (start-there : (u : Node)
-    → (g.A.Automaton.seen c.args.self.now.automaton.now).stands No c.args.self.now.cursor.state u → u ≡ Some []) where
+    → (g.A.Automaton.seen c.args.self.now.core.automaton.now).stands No c.args.self.now.cursor.state u → u ≡ Some []) where
   abbrev a : AutomatonView
-  a = g.A.Automaton.seen c.args.self.now.automaton.now
+  a = g.A.Automaton.seen c.args.self.now.core.automaton.now
 
   looks : (a.most ≡ 1) ⊎ (a.most ≡ 2)
-  looks = subst (λ (n : ℕ). (n ≡ 1) ⊎ (n ≡ 2)) (sym (g.met.A.Automaton.allows c.args.self.now.automaton.now)) g.met.A.Automaton.one_or_two
+  looks = subst (λ (n : ℕ). (n ≡ 1) ⊎ (n ≡ 2)) (sym (g.met.A.Automaton.allows c.args.self.now.core.automaton.now)) g.met.A.Automaton.one_or_two
 
   module _ (low end start : ℕ) (up : c.args.end ≤ end) (inside : end ≤ length c.args.tape.now.bytes)
       (onward : IsOnwardIn a c.args.tape.now low end start [] c.args.self.now.cursor None c.args.looks.now) where
@@ -55,9 +55,9 @@ returns-then-is_dead-clause-reads g c =
       onward = c.in-Some.ensures.first.0.low;
       moved = λ none. absurd (cc);
       reads = λ low end start up inside onward.
-          stops-next (a g d s) c.requires.may.on (looks g d s) c.args.tape.now.bytes low end start inside
+          stops-next (a g d s) (looks g d s) c.args.tape.now.bytes low end start inside
           (tries g d s low end start up inside onward) (takes g d s low end start up inside onward) c.next_state-led.ensures.looks
-          c.next_state-led.ensures.steps c.is_dead.result c.is_dead.ensures c.if-is_dead.true;
+          c.next_state-led.ensures.steps (dies-by (a g d s) c.next_state-led.result c.is_dead.ensures c.if-is_dead.true);
     }
 
 pub returns-clause-reads : goal.returns-clause-reads
@@ -68,7 +68,7 @@ returns-clause-reads g c =
       onward = (let l = c.in-Some.ensures.first.0.low in omega arith);
       moved = λ none. let l = c.in-Some.ensures.first.0.low in omega arith;
       reads = λ low end start up inside onward.
-          onward-next (a g d s) c.requires.may.on (looks g d s) c.args.tape.now.bytes low end start inside
+          onward-next (a g d s) (looks g d s) c.args.tape.now.bytes low end start inside
           (tries g d s low end start up inside onward) (takes g d s low end start up inside onward) c.next_state-led.ensures.looks
-          c.next_state-led.ensures.steps c.is_dead.result c.is_dead.ensures c.if-is_dead.false;
+          c.next_state-led.ensures.steps (lives-by (a g d s) c.next_state-led.result c.is_dead.ensures c.if-is_dead.false);
     }

@@ -6,7 +6,7 @@ use Rattle.ac_automaton.proofs.automaton.onward.Onward.skip_alive.Given as goal
 abbrev pub invariant-loop-self : goal.invariant-loop-self
 invariant-loop-self g l = record {
   same : l.self ≡ record l.fn.self { cursor = l.self.cursor; budget = l.self.budget };
-  comes : ComesUpTo (g.A.Automaton.seen l.fn.self.automaton.now) l.fn.tape l.end l.fn.self.cursor l.fn.looks l.self.cursor l.tape l.looks;
+  comes : ComesUpTo (g.A.Automaton.seen l.fn.self.core.automaton.now) l.fn.tape l.end l.fn.self.cursor l.fn.looks l.self.cursor l.tape l.looks;
 }
 
 abbrev pub decreases-loop-self : goal.decreases-loop-self

@@ -85,10 +85,10 @@ returns-in-Ok g c =
       small = (let l = ap length added ∙ length-append c.self.inside.history.bytes more in
           let k = c.self.invariant.streams.counted in let w = took.within in
           let d = length-drop at c.read_after.new.buffer in omega (arith, c.if-self-n.true));
-      given = ap (λ (k : ℕ). take k (stream_result (g.A.Automaton.seen c.self.inside.automaton.now).built c.with-self-inside.result.bytes))
+      given = ap (λ (k : ℕ). take k (stream_result (g.A.Automaton.seen c.self.inside.core.automaton.now).built c.with-self-inside.result.bytes))
           (sym (ap (λ (v : Streaming). v.given) e))
           ∙ ap (λ (w : List ℕ). take c.self.inside.given.number
-          (stream_result (g.A.Automaton.seen c.self.inside.automaton.now).built w)) added
+          (stream_result (g.A.Automaton.seen c.self.inside.core.automaton.now).built w)) added
           ∙ given-stays _ _ _ _ c.self.invariant.streams more (λ ended. absurd (let no' = sym (opens g d) ∙ ended in cc))
           ∙ ap (λ (v : Streaming). take v.given (matches_so_far v)) e;
     }
