@@ -120,10 +120,10 @@ ready-start : (s : Scan) (stops : Bool) (bytes : List ℕ) (span : Span) {state 
     → span.start ≤ length bytes → IsReady s (in_memory bytes span) stops (record { state = state; at = span.start })
 ready-start s stops bytes span there inside = search (rules, at-start, picked-start)
 
-pub may-find-first : {v : ScannerView} {stops : Bool} {tape : Taped} {state : ℕ} → MaySearch v.span tape → v.front ≡ 0
+pub may-find-first : {v : ScannerView} {stops : Bool} {tape : Taped} {state : ℕ} → MaySearch v.span tape
     → v.span.end ≤ usize_max → v.span.start ≤ v.span.end → v.scan.stands state (Some []) → (stops ≡ false → is_leftmost v.scan.built.kind ≡ true)
     → MayFind v stops tape (record { state = state; at = v.span.start })
-may-find-first {v} {stops} {tape} may memory small ordered starts leftmost =
+may-find-first {v} {stops} {tape} may small ordered starts leftmost =
     grind (
       arith,
       common_steps,
@@ -133,7 +133,7 @@ may-find-first {v} {stops} {tape} may memory small ordered starts leftmost =
 -- what a find answers that begins there is said of its finder
 pub finds-in : (a : AutomatonView) {anchored : Anchored} {span : Span} {stops : Bool} {tape new_tape : Taped}
     {counts new_counts : Counts} {found : Option Occurrence} {start : Cursor} → start.at ≡ span.start → tape.place ≤ span.start
-    → FindsOn (record { scan = scan_of a anchored; span = span; front = 0 }) stops start tape counts found new_tape new_counts
+    → FindsOn (record { scan = scan_of a anchored; span = span }) stops start tape counts found new_tape new_counts
     → FindsIn (finding_of a anchored stops) span tape counts found new_tape new_counts
 finds-in a {anchored} {span} {stops} {tape} {new_tape} {counts} {new_counts} {found} {start} there unread finds =
     let s = scan_of a anchored in

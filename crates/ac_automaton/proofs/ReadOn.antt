@@ -1,6 +1,6 @@
 -- A scan that reads byte by byte: where its automaton stands with one byte more, what it has read and looked at, and that
 -- each look is paid for.
-use Rattle.std.proofs.Common.{◌≡◌, ◌≢◌, ◌⊎◌, ℕ, ◌+◌, ◌-◌, ◌*◌, ◌<◌, ◌≤◌, List, [], ◌∷◌, ◌++◌, length, length-append, slice_index, inl, inr, refl, ap, sym, subst, ◌∙◌, arith, Bool, Some, None, rules}
+use Rattle.std.proofs.Common.{◌≡◌, ◌≢◌, ◌⊎◌, ℕ, ◌+◌, ◌-◌, ◌*◌, ◌<◌, ◌≤◌, [], length, slice_index, inl, inr, ap, subst, ◌∙◌, arith, Bool, Some, None, rules}
 use Rattle.std.proofs.lemmas.Bool.{cases_lt}
 use Rattle.std.proofs.lemmas.Grind.{common_steps}
 use Rattle.ac_util.specs.declared.search.Anchored.{Anchored}
@@ -9,7 +9,7 @@ use Rattle.ac_util.proofs.Failures.{depth-reached}
 use Rattle.ac_util.proofs.OneLonger.{step-longer}
 use Rattle.ac_util.proofs.Spans.{text_length}
 use Rattle.ac_util.proofs.SearchLoop.{step-paid}
-use Rattle.ac_automaton.specs.Prelude.{Cursor, FitsIn, Grows, HasRead, IsAlive, IsAt, looks_of, most_looks, node, NoMatchBetween, PassesNoMatch, past, plain_of, Scan, ScansTo, ScanText, search_through, step_of, Work}
+use Rattle.ac_automaton.specs.Prelude.{Cursor, FitsIn, Grows, HasRead, IsAlive, IsAt, looks_of, most_looks, node, NoMatchBetween, PassesNoMatch, plain_of, Scan, ScansTo, ScanText, search_through, step_of, Work}
 
 -- a step's looks are paid by what was saved and what the byte brings; an anchored one saves nothing and looks
 -- once
@@ -22,21 +22,6 @@ step-within most built Yes u byte one_or_two = grind (arith, common_steps)
 -- what holds as far as n and one place on holds as far as there
 pub below_next : (n : ℕ) (P : ℕ → Type 0) → ((k : ℕ) → k < n → P k) → P n → (k : ℕ) → k < n + 1 → P k
 below_next n P before now k up = elim (cases_lt k n) [ inl l ↦ before k l | inr l ↦ subst P (omega arith) now ]
-
--- a place of the tape among all bytes read, as a sum
-pub past-is : (before : List ℕ) (at : ℕ) → past before at ≡ length before + at
-past-is [] at = omega arith
-past-is (b ∷ before) at = let e = past-is before at in omega arith
-
--- a byte of the tape among all bytes read
-index-past : (before bytes : List ℕ) (at : ℕ) → slice_index (before ++ bytes) (past before at) ≡ slice_index bytes at
-index-past [] bytes at = refl
-index-past (b ∷ before) bytes at = grind (arith, common_steps, index-past before bytes at)
-
--- one place further
-past-next : (before : List ℕ) (at : ℕ) → past before at + 1 ≡ past before (at + 1)
-past-next [] at = refl
-past-next (b ∷ before) at = let e = past-next before at in omega arith
 
 -- what has grown twice has grown
 pub grows-trans : {a b c : Counts} → Grows a b → Grows b c → Grows a c
@@ -59,38 +44,27 @@ module _ (s : Scan) (t : ScanText) where
   abbrev most : ℕ
   most = most_looks s.anchored s.most
 
-  abbrev place : ℕ → ℕ
-  place at = past t.before at
-
-  -- a place of the tape lies among all bytes read
-  pub inside-past : {at : ℕ} → at ≤ length t.bytes → place at ≤ length (t.before ++ t.bytes)
-  inside-past {at} room = search (rules, length-append, past-is)
-
   -- where the text starts nothing was read: the automaton stands at its start
-  pub node-start : (at : ℕ) → place at ≡ t.start → node s t at ≡ Some []
+  pub node-start : (at : ℕ) → at ≡ t.start → node s t at ≡ Some []
   node-start at there = grind (arith, common_steps)
 
   -- one byte more leads from the node reached to the next one
-  pub node-step : (at byte : ℕ) → t.start ≤ place at → at < length t.bytes → byte ≡ slice_index t.bytes at
+  pub node-step : (at byte : ℕ) → t.start ≤ at → at < length t.bytes → byte ≡ slice_index t.bytes at
       → step_of s.built s.anchored (node s t at) byte ≡ node s t (at + 1)
   node-step at byte ordered room read =
-      let inside = inside-past {at = at + 1} (omega arith) in
-      let next = past-next t.before at in
-      ap (step_of s.built s.anchored (node s t at)) (read ∙ sym (index-past t.before t.bytes at))
-      ∙ step-longer s.built.kind (record q { high = place at }) ordered (omega arith)
-      ∙ ap (λ (k : ℕ). reached s.built.kind (plain_of s.built) s.anchored (text (record q { high = k }))) next
+      ap (step_of s.built s.anchored (node s t at)) read ∙ step-longer s.built.kind (record q { high = at }) ordered room
 
   -- the node fits into what was read
-  pub node-fits : (state at : ℕ) → IsAt s t state at → FitsIn s.anchored (node s t at) t.start (place at)
+  pub node-fits : (state at : ℕ) → IsAt s t state at → FitsIn s.anchored (node s t at) t.start at
   node-fits state at is_at = grind (arith, common_steps, depth-reached, text_length)
 
   -- where the text starts the automaton stands in a state for its start
-  pub at-start : {state : ℕ} (at : ℕ) → s.stands state (Some []) → place at ≡ t.start → at ≤ length t.bytes
+  pub at-start : {state : ℕ} (at : ℕ) → s.stands state (Some []) → at ≡ t.start → at ≤ length t.bytes
       → IsAt s t state at
-  at-start {state} at there start room = search (rules, inside-past, node-start)
+  at-start {state} at there start room = search (rules, node-start)
 
   -- where it isn't dead
-  pub alive-start : {state : ℕ} (at : ℕ) → s.stands state (Some []) → place at ≡ t.start → at ≤ length t.bytes
+  pub alive-start : {state : ℕ} (at : ℕ) → s.stands state (Some []) → at ≡ t.start → at ≤ length t.bytes
       → IsAlive s t (record { state = state; at = at })
   alive-start at there start room = grind (arith, common_steps, at-start at there start room)
 
@@ -98,11 +72,11 @@ module _ (s : Scan) (t : ScanText) where
   pub scans-nothing : {at : ℕ} {work : Work} → work.place ≤ at → ScansTo s t at work at work
   scans-nothing unread = grind (arith, common_steps)
 
-  -- what a search of the text has read that began at its start, in memory
-  pub read-scanned : {at : ℕ} {work new_work : Work} → t.before ≡ []
+  -- what a search of the text has read that began at its start
+  pub read-scanned : {at : ℕ} {work new_work : Work}
       → ScansTo s t t.start work at new_work → at ≤ t.end
       → HasRead most (may_skip s.wants_prefilter q) t.start t.end work new_work
-  read-scanned {at} {work} {new_work} memory scans up = grind (arith, common_steps)
+  read-scanned {at} {work} {new_work} scans up = grind (arith, common_steps)
 
 module _ {s : Scan} {t : ScanText} where
   -- one scan after another is one scan
@@ -132,12 +106,11 @@ module _ {s : Scan} {t : ScanText} {cursor : Cursor} (alive : IsAlive s t cursor
       → s.stands next (step_of s.built s.anchored (node s t cursor.at) byte)
       → IsAt s t next (cursor.at + 1)
   at-next {next} {byte} is room there =
-      let further = past-next t.before cursor.at in
       record {
         there = subst (s.stands next) (node-step s t cursor.at byte alive.is_at.onward room is) there;
         onward = (let o = alive.is_at.onward in omega arith);
-        inside = inside-past s t (omega arith);
-        alive = λ k from below. below_next (past t.before cursor.at)
+        inside = omega arith;
+        alive = λ k from below. below_next cursor.at
             (λ n. t.start ≤ n → reached s.built.kind (plain_of s.built) s.anchored
             (text (record (search_through s t) { high = n })) ≢ None)
             (λ n up low. alive.is_at.alive n low up) (λ _. alive.living) k (omega arith) from;

@@ -11,9 +11,9 @@ use Rattle.ac_util.proofs.Found.{matches-nil}
 use Rattle.ac_util.proofs.NodeCount.{any_passes}
 use Rattle.ac_util.proofs.Participants.{equal_to-none_begins}
 use Rattle.ac_util.proofs.Reached.{step-nil}
-use Rattle.ac_automaton.specs.Prelude.{Advances, Cursor, IsAlive, matches_of, MayAdvance, node, node_at, PassesNoMatch, past, plain_of, Scan, ScannerView, ScanText, search_through, SkipsTo, StaysAtStart, step_of, Work}
+use Rattle.ac_automaton.specs.Prelude.{Advances, Cursor, IsAlive, matches_of, MayAdvance, node, PassesNoMatch, plain_of, Scan, ScannerView, ScanText, SkipsTo, StaysAtStart, step_of, Work}
 use Rattle.ac_automaton.proofs.ReadAhead.{along-passed, along-start}
-use Rattle.ac_automaton.proofs.ReadOn.{grows-trans, inside-past, node-step, past-is}
+use Rattle.ac_automaton.proofs.ReadOn.{grows-trans, node-step}
 
 -- where a plain pattern begins with a plain byte, some pattern begins with the byte
 begins-from_plain : (ignores_case : Bool) (b : ℕ) (patterns : List (List ℕ)) (n : ℕ)
@@ -57,7 +57,7 @@ module _ {s : Scan} {bytes : List ℕ} (by : SkipsTo s bytes) where
   begin = by.skips.serves
 
   -- over bytes with which no pattern begins it stays there
-  module _ (t : ScanText) (at to : ℕ) (onward : t.start ≤ past t.before at) (inside : to ≤ length t.bytes)
+  module _ (t : ScanText) (at to : ℕ) (onward : t.start ≤ at) (inside : to ≤ length t.bytes)
       (none : Nowhere (Passes (is_one_of bytes) t.bytes) at to) (there : node s t at ≡ Some []) where
     stays-for : (n : ℕ) → at + n ≤ to → node s t (at + n) ≡ Some []
     stays-for zero up = ap (node s t) (omega arith) ∙ there
@@ -66,8 +66,6 @@ module _ {s : Scan} {bytes : List ℕ} (by : SkipsTo s bytes) where
         let byte = slice_index t.bytes (at + n) in
         let other = false_from_ne_true (list_any (begins_with s.built.ignores_case byte) s.built.patterns)
         (λ f. none (at + n) (omega arith) (omega arith) (begin.begins byte f)) in
-        let low = past-is t.before at in
-        let here_past = past-is t.before (at + n) in
         ap (node s t) (let e : at + suc n ≡ at + n + 1 = omega arith in e)
         ∙ sym (node-step s t (at + n) byte (omega arith) (omega arith) refl)
         ∙ ap (λ (u : Node). step_of s.built s.anchored u byte) here
@@ -82,24 +80,18 @@ module _ {s : Scan} {bytes : List ℕ} (by : SkipsTo s bytes) where
     -- where it has skipped to the automaton stands too, and isn't dead
     pub alive-skipped : IsAlive s t (record { state = cursor.state; at = to })
     alive-skipped =
-        let low = past-is t.before cursor.at in
-        let high = past-is t.before to in
         let here = stays cursor.at (omega arith) onward in
         let there = stays to onward (omega arith) in
         record {
           is_at = record {
             there = subst (s.stands cursor.state) (here ∙ sym there) alive.is_at.there;
             onward = (let o = alive.is_at.onward in omega arith);
-            inside = inside-past s t inside;
-            alive = λ k from below. elim (cases_lt k (past t.before cursor.at)) [
+            inside = inside;
+            alive = λ k from below. elim (cases_lt k cursor.at) [
               | inl before ↦ alive.is_at.alive k from before
               | inr beyond ↦ (λ dead.
-                  let local = past-is t.before (k - length t.before) in
-                  let place : past t.before (k - length t.before) ≡ k = omega arith in
-                  let start = stays (k - length t.before) (omega arith) (omega arith) in
-                  let both : Some [] ≡ None =
-                  sym start ∙ ap (λ (n : ℕ). node_at s.built.kind (search_through s t) n) place ∙ dead in
-                  absurd (cc))
+                  let start = stays k (omega arith) (omega arith) in
+                  let both : Some [] ≡ None = sym start ∙ dead in absurd (cc))
             ];
           };
           living = λ dead. let both : Some [] ≡ None = sym there ∙ dead in absurd (cc);

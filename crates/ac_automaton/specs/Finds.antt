@@ -4,7 +4,7 @@ use Rattle.ac_util.specs.declared.search.Anchored.{Anchored}
 use Rattle.ac_automaton.specs.Util.{Built, MatchKind, order_of, InputView, Counts, depth, is_leftmost, may_skip, Node, Occurrence, occurrence, pattern_of, pick, Search, Span, Standard, Taped, usize_max, Yes}
 use Rattle.ac_automaton.specs.Automata.{AutomatonView, matches_of}
 use Rattle.ac_automaton.specs.declared.automaton.scan.Cursor.{Cursor}
-use Rattle.ac_automaton.specs.Scans.{HasRead, StopsAtDead, Work, most_looks, node_at, search_of, work_of, IsAt, Scan, ScannerView, ScansTo, ScanText, in_memory, node, past, search_through}
+use Rattle.ac_automaton.specs.Scans.{HasRead, StopsAtDead, Work, most_looks, node_at, search_of, work_of, IsAt, Scan, ScannerView, ScansTo, ScanText, in_memory, node, search_through}
 
 -- how finds are made: the kind of their automaton, and the order by which they pick; how many looks it may take for each
 -- byte where it isn't anchored, and whether it was built to have a prefilter
@@ -82,50 +82,14 @@ found_at built anchored u end = option_map (place_of built end) (slice_get (matc
 pub record StandsIn (v : ScannerView) (cursor : Cursor) : Type 0 where
   pub node : Node
   pub stands : v.scan.stands cursor.state node
-  pub fits : FitsIn v.scan.anchored node v.span.start (v.front + cursor.at)
-  pub small : v.front + cursor.at ≤ usize_max
+  pub fits : FitsIn v.scan.anchored node v.span.start cursor.at
+  pub small : cursor.at ≤ usize_max
 
 -- this is what each such node finds
 abbrev pub FindsAt : ScannerView → Cursor → Option Occurrence → Type 0
 FindsAt v cursor found =
-    (u : Node) → v.scan.stands cursor.state u → FitsIn v.scan.anchored u v.span.start (v.front + cursor.at)
-    → found ≡ found_at v.scan.built v.scan.anchored u (v.front + cursor.at)
-
--- a text by which a scanner may have come to its tape: it has the tape's bytes, and as many before them; it begins with the
--- span, or later in an unanchored search
-pub record LeadsTo (v : ScannerView) (tape : Taped) (t : ScanText) : Type 0 where
-  pub same : t.bytes ≡ tape.bytes
-  pub front : length t.before ≡ v.front
-  pub low : v.span.start ≤ t.start
-  pub whole : v.scan.anchored ≡ Yes → t.start ≡ v.span.start
-
--- a find that stops at the first match, or not, has come to a cursor and has picked this so far
-pub record HasPicked (s : Scan) (stops : Bool) (t : ScanText) (cursor : Cursor) (picked : Option Occurrence) : Type 0 where
-  pub is_at : IsAt s t cursor.state cursor.at
-  pub picks : picked ≡ pick (order_of s.built.kind stops) (record (search_through s t) { high = past t.before cursor.at })
-
--- it may go on within its span
-pub record MayPick (v : ScannerView) (stops : Bool) (tape : Taped) (cursor : Cursor) (picked : Option Occurrence) : Type 0 where
-  pub leftmost : stops ≡ false → is_leftmost v.scan.built.kind ≡ true
-  pub within : cursor.at ≤ v.span.end
-  pub inside : v.span.end ≤ length tape.bytes
-  pub unread : tape.place ≤ cursor.at
-  pub small : v.front + v.span.end ≤ usize_max
-  pub led : (t : ScanText) × LeadsTo v tape t × HasPicked v.scan stops t cursor picked
-
--- it has gone on, whichever text has led to its tape. A match that it stops at ends where it has come to
-pub record PicksOn (v : ScannerView) (stops : Bool) (cursor : Cursor) (tape : Taped) (counts : Counts)
-    (picked : Option Occurrence) (new_cursor : Cursor) (new_tape : Taped) (new_counts : Counts)
-    (new_picked : Option Occurrence) : Type 0 where
-  pub bytes : new_tape.bytes ≡ tape.bytes
-  pub onward : cursor.at ≤ new_cursor.at
-  pub within : new_cursor.at ≤ v.span.end
-  pub picks : (t : ScanText) → LeadsTo v tape t → HasPicked v.scan stops t cursor picked
-      → HasPicked v.scan stops t new_cursor new_picked
-  pub scans : (t : ScanText) → LeadsTo v tape t → HasPicked v.scan stops t cursor picked
-      → ScansTo v.scan t cursor.at (work_of tape counts) new_cursor.at (work_of new_tape new_counts)
-  pub ends : order_of v.scan.built.kind stops ≡ Standard → IfSome picked (λ m. m.end ≡ v.front + cursor.at)
-      → IfSome new_picked (λ m. m.end ≡ v.front + new_cursor.at)
+    (u : Node) → v.scan.stands cursor.state u → FitsIn v.scan.anchored u v.span.start cursor.at
+    → found ≡ found_at v.scan.built v.scan.anchored u cursor.at
 
 -- how a scan's finds are made that stop at the first match, or not
 abbrev pub picking_by : Scan → Bool → Picking
@@ -142,12 +106,7 @@ pub record IsReady (s : Scan) (t : ScanText) (stops : Bool) (cursor : Cursor) : 
 abbrev pub IsAnswered : Bool → ℕ → ℕ → Node → Option Occurrence → Type 0
 IsAnswered stops end at u last = (end ≤ at) ⊎ ((u ≡ None) ⊎ ((stops ≡ true) × (last ≢ None)))
 
--- each node for which a scanner's state stands has the answer of a find in the last match found
-abbrev pub HasAnswer : ScannerView → Bool → Cursor → Option Occurrence → Type 0
-HasAnswer v stops cursor last =
-    (u : Node) → v.scan.stands cursor.state u → IsAnswered stops v.span.end cursor.at u last
-
--- a test tells whether it has
+-- a test tells whether each node for which a scanner's state stands has it
 abbrev pub TellsAnswer : ScannerView → Bool → Cursor → Option Occurrence → Bool → Type 0
 TellsAnswer v stops cursor last result =
     (u : Node) → v.scan.stands cursor.state u → IsTrue result ↔ IsAnswered stops v.span.end cursor.at u last
@@ -158,7 +117,6 @@ pub record MayFind (v : ScannerView) (stops : Bool) (tape : Taped) (cursor : Cur
   pub within : cursor.at ≤ v.span.end
   pub inside : v.span.end ≤ length tape.bytes
   pub unread : tape.place ≤ cursor.at
-  pub memory : v.front ≡ 0
   pub small : v.span.end ≤ usize_max
   pub ready : IsReady v.scan (in_memory tape.bytes v.span) stops cursor
 
@@ -166,7 +124,6 @@ pub record MayFind (v : ScannerView) (stops : Bool) (tape : Taped) (cursor : Cur
 pub record MayBegin (v : ScannerView) (stops : Bool) (tape : Taped) (cursor : Cursor) : Type 0 where
   pub starts : v.scan.stands cursor.state (Some [])
   pub there : cursor.at ≡ v.span.start
-  pub memory : v.front ≡ 0
   pub small : v.span.end ≤ usize_max
   pub leftmost : stops ≡ false → is_leftmost v.scan.built.kind ≡ true
   pub before_end : cursor.at < v.span.end

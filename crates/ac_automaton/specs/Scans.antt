@@ -1,6 +1,6 @@
 -- What a search has done with its tape; a scan: an automaton under an anchoring, the text that it reads, how far it has come
 -- in it, and how it skips.
-use Rattle.std.specs.Prelude.{◌≡◌, ◌≢◌, ℕ, ◌+◌, ◌-◌, ◌*◌, ◌<◌, ◌≤◌, Bool, false, List, None, length, max, ◌⊎◌, ◌↔◌, IsTrue, [], ◌∷◌, ◌++◌, Some, Option}
+use Rattle.std.specs.Prelude.{◌≡◌, ◌≢◌, ℕ, ◌+◌, ◌-◌, ◌*◌, ◌<◌, ◌≤◌, Bool, false, List, None, length, max, ◌⊎◌, ◌↔◌, IsTrue, [], Some, Option}
 use Rattle.ac_util.specs.declared.search.Anchored.{Anchored}
 use Rattle.ac_automaton.specs.Util.{Built, Counts, MatchKind, No, no_counts, Node, plain_patterns, reached, Search, Taped, text, Yes, credit, may_skip, Span, FirstOf, IsSkipFor, Skip, skip_for}
 use Rattle.ac_automaton.specs.declared.automaton.scan.Cursor.{Cursor}
@@ -98,46 +98,37 @@ scan_of a anchored = record {
   wants_prefilter = a.wants_prefilter;
 }
 
--- what contracts see of a scanner: its scan, the span of its tape that it reads, and how many bytes were read before the
--- first of its tape
+-- what contracts see of a scanner: its scan, and the span of its tape that it reads
 pub record ScannerView : Type 1 where
   pub scan : Scan
   pub span : Span
-  pub front : ℕ
 
 -- that of a scanner over an automaton of which this is seen
 abbrev pub scanner : {A M : Type 0} → (A → AutomatonView) → Scanner A M → ScannerView
-scanner seen s = record { scan = scan_of (seen s.automaton.now) s.anchored; span = s.span; front = s.front }
+scanner seen s = record { scan = scan_of (seen s.automaton.now) s.anchored; span = s.span }
 
--- what a scan reads: the bytes that were read before the first of its tape, and those of the tape; and where in all of
--- these the span starts that it searches, and where that ends
+-- what a scan reads: the bytes of its tape, and where in these the span starts that it searches, and where that ends
 pub record ScanText : Type 0 where
-  pub before : List ℕ
   pub bytes : List ℕ
   pub start : ℕ
   pub end : ℕ
 
--- an offset of the tape among all bytes that were read, where these were read before
-abbrev pub past : List ℕ → ℕ → ℕ
-past [] at = at
-past (b ∷ before) at = past before at + 1
-
--- the text of a haystack in memory: nothing was read before
+-- the text of a haystack with a span
 abbrev pub in_memory : List ℕ → Span → ScanText
-in_memory bytes span = record { before = []; bytes = bytes; start = span.start; end = span.end }
+in_memory bytes span = record { bytes = bytes; start = span.start; end = span.end }
 
 module _ (s : Scan) (t : ScanText) where
   -- the search of the text
   abbrev pub search_through : Search
-  search_through = search_of s.built s.anchored (t.before ++ t.bytes) t.start t.end
+  search_through = search_of s.built s.anchored t.bytes t.start t.end
 
   -- the node reached at an offset of the tape
   abbrev pub node : ℕ → Node
-  node at = node_at s.built.kind search_through (past t.before at)
+  node at = node_at s.built.kind search_through at
 
   -- the automaton stands at an offset of the tape in a state for the node reached, and was dead at no offset before
   abbrev pub IsAt : ℕ → ℕ → Type 0
-  IsAt state at = Reaches s.stands s.built.kind search_through state (past t.before at)
+  IsAt state at = Reaches s.stands s.built.kind search_through state at
 
   -- and it isn't dead there
   pub record IsAlive (cursor : Cursor) : Type 0 where

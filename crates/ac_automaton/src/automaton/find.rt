@@ -164,7 +164,6 @@ impl<'a, A: Automaton> Finder<'a, A> {
             automaton: self.automaton,
             anchored: self.anchored,
             span,
-            front: 0,
         };
         let start = Cursor {
             state: self.start,
@@ -188,7 +187,6 @@ impl<'a, A: Automaton> Finder<'a, A> {
             automaton: self.automaton,
             anchored: self.anchored,
             span,
-            front: 0,
         };
         let mut start = Cursor {
             state: self.start,
@@ -212,10 +210,11 @@ impl<'a, A: Automaton> Finder<'a, A> {
 
 impl<'a, A: Automaton> Scanner<'a, A> {
     ghost use Rattle.ac_automaton.specs.Automata.{IsState};
-    ghost use Rattle.ac_automaton.specs.Finds.{FindsOn, HasAnswer, MayBegin, MayFind, MayPick, PicksOn, TellsAnswer};
+    ghost use Rattle.ac_automaton.specs.Finds.{FindsOn, MayBegin, MayFind, TellsAnswer};
     ghost use Rattle.ac_automaton.specs.Scans.{scanner, SkipsToNeedle};
 
-    /// Returns the pick of the span, by reading on from where nothing is picked but what the state there finds.
+    /// Returns the pick of the span, by reading on from where nothing is picked but what the state there finds: until that
+    /// can't change, or up to the first match if it stops there.
     #[inline]
     fn find_on(
         &self,
@@ -227,45 +226,21 @@ impl<'a, A: Automaton> Scanner<'a, A> {
         requires { MayFind (scanner A.seen self.now) stops tape.old cursor }
         ensures { FindsOn (scanner A.seen self.now) stops cursor tape.old looks.old result tape.new looks.new }
     {
-        let mut start = cursor;
-        let here = &mut start;
-        let found = self.match_at(here);
-        self.pick_on(stops, here, found, tape, looks)
-    }
-
-    /// Returns the pick of what was read so far and of the rest of the span, of which `picked` is that of what was read so
-    /// far. It reads on until that can't change, or up to the first match if it stops there.
-    // A stream that calls it for each match is slower by an eighth.
-    #[inline(always)]
-    pub(super) fn pick_on(
-        &self,
-        stops: bool,
-        cursor: &mut Cursor,
-        picked: Option<Match>,
-        tape: &mut Tape<'_>,
-        looks: &mut Looks,
-    ) -> Option<Match>
-        requires { MayPick (scanner A.seen self.now) stops tape.old cursor.old picked }
-        ensures picks { PicksOn (scanner A.seen self.now) stops cursor.old tape.old looks.old picked cursor.new tape.new
-            looks.new result }
-        ensures answered { HasAnswer (scanner A.seen self.now) stops cursor.new result }
-    {
         // A copy, which stays in registers.
-        let mut copied = *cursor;
+        let mut copied = cursor;
         let here = &mut copied;
-        let mut last = picked;
+        let mut last = self.match_at(here);
         while !self.is_decided(stops, here, &last) {
             self.read_ahead(here, tape, looks);
             last = self.match_at(here).or(last);
         }
-        *cursor = *here;
         last
     }
 
     /// Returns whether the last match found is the answer: nothing is left to read, nothing more is found, or the
     /// first match counts.
     #[inline]
-    pub(super) fn is_decided(&self, stops: bool, cursor: &Cursor, last: &Option<Match>) -> bool
+    fn is_decided(&self, stops: bool, cursor: &Cursor, last: &Option<Match>) -> bool
         requires { IsState (scanner A.seen self.now).scan.stands cursor.now.state }
         ensures { TellsAnswer (scanner A.seen self.now) stops cursor.now last.now result }
     {

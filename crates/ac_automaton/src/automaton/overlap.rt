@@ -90,7 +90,6 @@ pub(super) fn try_find_overlapping<A: Automaton>(
         automaton,
         anchored,
         span: input.get_span(),
-        front: 0,
     };
     let mut reached = match state.reached {
         Some(reached) => reached,

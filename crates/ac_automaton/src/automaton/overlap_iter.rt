@@ -75,7 +75,6 @@ impl<'a, 'h, A: Automaton> FindOverlappingIter<'a, 'h, A> {
             automaton,
             anchored,
             span: input.get_span(),
-            front: 0,
         };
         let first = scanner.listing_skips_to();
         let (tape, looks) = open(&input);

@@ -38,8 +38,6 @@ pub(super) struct Scanner<'a, A: Automaton> {
     pub(super) automaton: &'a A,
     pub(super) anchored: Anchored,
     pub(super) span: Span,
-    /// How many bytes were read before the first of the tape.
-    pub(super) front: usize,
 }
 
 impl<'a, A: Automaton> Scanner<'a, A> {
@@ -88,8 +86,7 @@ impl<'a, A: Automaton> Scanner<'a, A> {
         cursor.at >= self.span.end || self.automaton.is_dead(cursor.state)
     }
 
-    /// Returns the first match of the state where the automaton stands that counts, which ends at the cursor's place. Its
-    /// offsets count the bytes that were read before the tape too.
+    /// Returns the first match of the state where the automaton stands that counts, which ends at the cursor's place.
     #[inline]
     pub(super) fn match_at(&self, cursor: &Cursor) -> Option<Match>
         requires { StandsIn (scanner A.seen self.now) cursor.now }
@@ -98,7 +95,7 @@ impl<'a, A: Automaton> Scanner<'a, A> {
         if !self.automaton.is_match(cursor.state) {
             return None;
         }
-        let end = self.front + cursor.at;
+        let end = cursor.at;
         let pattern = self.automaton.match_pattern(cursor.state, 0);
         let len = self.automaton.pattern_len(pattern);
         if !is_due(self.anchored, len, end - self.span.start) {

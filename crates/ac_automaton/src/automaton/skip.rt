@@ -222,7 +222,6 @@ impl<'a, A: Automaton> Scanner<'a, A> {
                 start: self.span.start,
                 end: budget.rest_end(from, self.span.end),
             },
-            front: self.front,
         };
         scanner.read_ahead(cursor, tape, looks);
         budget.record_rest(cursor.at - from);

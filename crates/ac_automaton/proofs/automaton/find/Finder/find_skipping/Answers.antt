@@ -14,7 +14,7 @@ returns-then-span-clause-finds g c =
 -- without a prefilter, or without a byte, it finds as any find does
 pub find_on-requires-in_default : goal.find_on-requires-in_default
 find_on-requires-in_default g c =
-    may-find-first c.requires refl (omega arith) (omega (arith, c.if-span.false)) c.self.invariant.starts c.self.invariant.leftmost
+    may-find-first c.requires (omega arith) (omega (arith, c.if-span.false)) c.self.invariant.starts c.self.invariant.leftmost
 
 pub returns-in_default-clause-finds : goal.returns-in_default-clause-finds
 returns-in_default-clause-finds g c =
@@ -24,7 +24,7 @@ returns-in_default-clause-finds g c =
 
 -- it begins where it may skip
 module _ (g : Over) (c : Then-span-2 g) where
-  begins : MayBegin (record { scan = scan_of (g.A.Automaton.seen c.self.inside.automaton.now) c.self.inside.anchored; span = c.args.span; front = 0 })
+  begins : MayBegin (record { scan = scan_of (g.A.Automaton.seen c.self.inside.automaton.now) c.self.inside.anchored; span = c.args.span })
       c.self.inside.stops c.args.tape.now (record { state = c.self.inside.start; at = c.args.span.start })
   begins = search rules
 

@@ -1,4 +1,4 @@
-use Rattle.std.proofs.Common.{◌≡◌, ◌+◌, ℕ, arith, Some, slice_get, rules}
+use Rattle.std.proofs.Common.{◌≡◌, ℕ, Some, slice_get, rules}
 use Rattle.std.proofs.lemmas.Bool.{false≢true}
 use Rattle.ac_automaton.proofs.Heads.{HeadFits, found-due, found-none, found-not_due, head-fits, nil-from_not}
 use Rattle.ac_automaton.proofs.automaton.scan.Scanner.match_at.Given.{Over}
@@ -14,11 +14,11 @@ fits : (g : Over) (c : After-is_match g) (p : ℕ)
     → slice_get ((g.A.Automaton.seen c.args.self.now.automaton.now).listed c.args.cursor.now.state) 0 ≡ Some p
     → HeadFits (g.A.Automaton.seen c.args.self.now.automaton.now).built
     ((g.A.Automaton.seen c.args.self.now.automaton.now).listed c.args.cursor.now.state) c.args.self.now.span.start
-    (c.args.self.now.front + c.args.cursor.now.at) p
+    c.args.cursor.now.at p
 fits g c p first =
     let self = c.args.self.now in
     let r = c.requires in
-    head-fits (g.A.Automaton.seen self.automaton.now).built _ self.span.start (self.front + c.args.cursor.now.at) self.anchored r.node p
+    head-fits (g.A.Automaton.seen self.automaton.now).built _ self.span.start c.args.cursor.now.at self.anchored r.node p
     (g.met.A.Automaton.lists self.automaton.now self.anchored c.args.cursor.now.state r.node r.stands) r.fits first
 
 pub pattern_len-len-requires : goal.pattern_len-len-requires
@@ -32,9 +32,6 @@ returns-then-not-is_due g c = search (rules, found-not_due)
 
 pub overflow_sub-end-2 : goal.overflow_sub-end-2
 overflow_sub-end-2 g c = search (rules, fits)
-
-pub overflow_add-end : goal.overflow_add-end
-overflow_add-end g c = omega (arith, c.requires.small)
 
 -- else the first match ends here
 pub returns : goal.returns
