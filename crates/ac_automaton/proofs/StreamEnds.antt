@@ -2,7 +2,7 @@
 use Rattle.std.proofs.Common.{◌≡◌, ℕ, ◌≤◌, Bool, List, [], ◌++◌, length, sym, subst, arith, Option, Some, None, Result, Ok, Err}
 use Rattle.std.proofs.lemmas.Grind.{common_steps}
 use Rattle.ac_automaton.specs.Util.{Occurrence, Reading, ReadsAll, ReadsSome, Standard, stream_result, StreamError, usize_max}
-use Rattle.ac_automaton.specs.Prelude.{Ended, EndsNow, Failed, GivesLast, GivesMatch, GivesNone, GoesOnBy, HasGivenSettled, KeepsGiven, MeetsEnd, Open, Phase, Streaming, StreamsOn}
+use Rattle.ac_automaton.specs.Prelude.{Ended, EndsNow, Failed, GivesLast, GivesMatch, GivesNone, GoesOnBy, HasGivenLast, HasGivenSettled, KeepsGiven, MeetsEnd, Open, Phase, Streaming, StreamsOn}
 use Rattle.ac_automaton.specs.Streams.{GivesNextMatch}
 
 -- the end was met after some bytes more, or before; under Standard all matches were given before it was
@@ -13,7 +13,7 @@ module _ (ends : Bool) (old between new : Streaming) (reader new_reader : Readin
     (early : old.built.kind ≡ Standard → old.given ≡ length (stream_result old.built (old.bytes ++ more)))
     (small : length (old.bytes ++ more) ≤ usize_max) where
   -- all matches were given
-  ends-now : HasGivenSettled between new → EndsNow ends old new reader new_reader
+  ends-now : HasGivenLast between new → EndsNow ends old new reader new_reader
   ends-now done = grind (arith, common_steps)
 
   -- or one more

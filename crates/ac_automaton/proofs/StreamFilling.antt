@@ -1,14 +1,16 @@
 -- The search of a stream: how it begins, how its buffer is filled and makes room, and what is seen then.
-use Rattle.std.proofs.Common.{◌≡◌, ℕ, ◌+◌, ◌-◌, ◌<◌, ◌≤◌, Bool, List, [], ◌++◌, length, length-append, length-drop, take, drop, max, inl, inr, refl, ap, sym, subst, ◌∙◌, arith, Some, None, append_assoc, if◌then◌else◌, not, slice_range, rules}
-use Rattle.std.proofs.lemmas.List.{append-nil, drop-append-le, drop-drop, length-take-le}
-use Rattle.std.proofs.Math.Seq.{take-add}
+use Rattle.std.proofs.Common.{All, ◌≡◌, ◌≢◌, ℕ, ◌+◌, ◌-◌, ◌<◌, ◌≤◌, Bool, ◌⊎◌, List, [], ◌++◌, length, length-append, length-drop, take, drop, max, inl, inr, refl, ap, sym, subst, ◌∙◌, arith, Some, None, append_assoc, if◌then◌else◌, not, slice_range, rules}
+use Rattle.std.specs.List.{copy_within}
+use Rattle.std.proofs.lemmas.List.{append-nil, drop-append-le, drop-drop, drop-take, drop_all, length-take-le}
+use Rattle.std.proofs.lemmas.List.Edits.{take-paste}
+use Rattle.std.proofs.Math.Seq.{paste, take-add}
 use Rattle.std.proofs.lemmas.Grind.{common_steps}
 use Rattle.ac_util.specs.Commits.{StandsAfter}
 use Rattle.ac_automaton.specs.Util.{buffer_len, Built, from, is_leftmost, IsSettledBy, longest_len, Node, pick, stream_refusal, stream_result, usize_max}
 use Rattle.ac_util.proofs.Longer.{pick-extended}
 use Rattle.ac_util.proofs.Spans.{take_drop_take}
 use Rattle.ac_util.proofs.Walks.{next-none, walk_after-None}
-use Rattle.ac_automaton.specs.Prelude.{Ended, Failed, HasGivenSettled, Inside, IsStreaming, most_kept, Open, Phase, plain_of, initial_stream, StandsPast, stream_from, Streaming}
+use Rattle.ac_automaton.specs.Prelude.{Ended, Failed, HasGivenSettled, Inside, IsOver, IsStreaming, most_kept, Open, Phase, plain_of, initial_stream, StandsPast, stream_from, Streaming}
 use Rattle.ac_util.proofs.Onward.{after-start}
 use Rattle.ac_automaton.specs.Onward.{pending}
 use Rattle.ac_automaton.specs.Streams.{HasGiven}
@@ -40,6 +42,7 @@ module _ (stands : ℕ → Node → Type 0) (chains : List (List ChainMatch)) (b
     long = long;
     fits = omega arith;
     filled = omega arith;
+    clear = λ closed. absurd (closed refl);
     counted = refl;
     small = omega arith;
     holds = refl;
@@ -146,15 +149,20 @@ module _ (stands : ℕ → Node → Type 0) (chains : List (List ChainMatch)) (i
               };
         }
 
-    -- and no bytes came: the end was met, or there was a failure
-    module _ (settled : HasGivenSettled v v) where
-      pub streams-ended : IsStreaming stands chains (record i { buffer = buffer })
-          (record v { phase = Ended; buffer = length buffer })
-      streams-ended = search (rules, past-then Ended (length buffer), back-open)
+    -- and no bytes came
+    pub streams-still : IsStreaming stands chains (record i { buffer = buffer }) (record v { buffer = length buffer })
+    streams-still = search (rules, past-then v.phase (length buffer), back-open)
 
-      pub streams-failed : IsStreaming stands chains (record i { buffer = buffer })
-          (record v { phase = Failed; buffer = length buffer })
-      streams-failed = search (rules, past-then Failed (length buffer), back-open)
+    -- the stream was closed, and what stands after the bytes that are left was cleared
+    module _ (settled : HasGivenSettled v v) (clear : All (λ b. b ≡ 0) (drop i.filled buffer)) (phase : Phase) (closed : phase ≢ Open)
+        where
+      pub streams-closed : IsStreaming stands chains (record i { buffer = buffer }) (record v { phase = phase; buffer = length buffer })
+      streams-closed = by phase closed
+        where
+          by : (p : Phase) → p ≢ Open → IsStreaming stands chains (record i { buffer = buffer }) (record v { phase = p; buffer = length buffer })
+          by Open closed = absurd (closed refl)
+          by Ended closed = search (rules, past-then Ended (length buffer), back-open)
+          by Failed closed = search (rules, past-then Failed (length buffer), back-open)
 
     -- and some of that is bytes more
     module _ (n : ℕ) (more : List ℕ) (reads : more ≡ take n (drop i.filled buffer)) (room : n ≤ length (drop i.filled buffer))
@@ -177,6 +185,7 @@ module _ (stands : ℕ → Node → Type 0) (chains : List (List ChainMatch)) (i
             long = long ∙ inv.long;
             fits = let r = inv.fits in omega arith;
             filled = omega arith;
+            clear = λ closed. absurd (closed open');
             counted = omega arith;
             small = omega arith;
             holds = take-add i.filled n buffer
@@ -199,6 +208,19 @@ module _ (stands : ℕ → Node → Type 0) (chains : List (List ChainMatch)) (i
       pub streams-filled : IsStreaming stands chains (record i { buffer = buffer; filled = i.filled + n })
           (record v { bytes = bytes; buffer = length buffer })
       streams-filled = search (rules, filled)
+
+  -- what stands at the front of the buffer once the bytes that are kept were moved there
+  pub kept-moved : take (i.filled - (v.kept - v.front)) (copy_within i.buffer (v.kept - v.front) i.filled 0) ≡ drop v.kept v.bytes
+  kept-moved =
+      let from = v.kept - v.front in let n = i.filled - from in
+      let c = inv.counted in let k = inv.kept_within in let f = inv.filled in let b = inv.in_buffer in
+      ap (λ (m : ℕ). take m (paste i.buffer 0 (drop from i.buffer) n)) (let e : n ≡ 0 + n = omega arith in e)
+      ∙ take-paste i.buffer 0 (drop from i.buffer) n (omega arith) (let l = length-drop from i.buffer in omega arith)
+      ∙ sym (drop-take from n i.buffer)
+      ∙ ap (λ (m : ℕ). drop from (take m i.buffer)) (let e : from + n ≡ i.filled = omega arith in e)
+      ∙ ap (drop from) inv.holds
+      ∙ drop-drop from v.front v.bytes
+      ∙ ap (λ (m : ℕ). drop m v.bytes) (let e : v.front + from ≡ v.kept = omega arith in e)
 
   -- the bytes that are kept were moved to the front of the buffer
   module _ (open' : v.phase ≡ Open) (buffer : List ℕ) (long : length buffer ≡ length i.buffer)
@@ -227,6 +249,7 @@ module _ (stands : ℕ → Node → Type 0) (chains : List (List ChainMatch)) (i
           long = long ∙ inv.long;
           fits = (let r = inv.fits in omega arith);
           filled = omega arith;
+          clear = λ closed. absurd (closed open');
           counted = omega arith;
           small = inv.small;
           holds = holds;
@@ -258,22 +281,86 @@ module _ (stands : ℕ → Node → Type 0) (chains : List (List ChainMatch)) (i
           back = inl (let b = back-there in omega arith);
         }
 
+  -- the end was met, no byte is kept, and the buffer was cleared
+  module _ (ended : v.phase ≡ Ended) (none : v.kept ≡ length v.bytes) (buffer : List ℕ) (long : length buffer ≡ length i.buffer)
+      (clear : All (λ b. b ≡ 0) buffer) where
+    -- the search has read all of it
+    all-read : v.front + i.at ≡ v.kept + 0
+    all-read =
+        let c = inv.counted in let w = inv.within in let r = inv.read in
+        elim inv.back [ inl back ↦ omega arith | inr over ↦ let whole = over.whole in omega arith ]
+
+    back-read : (v.kept ≤ max i.begun (v.kept + 0 - i.reserve)) ⊎ IsOver (record i { buffer = buffer; filled = 0; at = 0 })
+        (record v { front = v.kept; buffer = length buffer })
+    back-read =
+        let place = all-read in
+        elim inv.back [
+          | inl back ↦ inl (omega arith)
+          | inr over ↦ inr (record { ended = ended; whole = refl; none = over.none })
+        ]
+
+    pub streams-forgotten : IsStreaming stands chains (record i { buffer = buffer; filled = 0; at = 0 })
+        (record v { front = v.kept; buffer = length buffer })
+    streams-forgotten =
+        let place = all-read in let c = inv.counted in
+        record {
+          allowed = inv.allowed;
+          starts = inv.starts;
+          stops = inv.stops;
+          reserve = inv.reserve;
+          size = refl;
+          long = long ∙ inv.long;
+          fits = (let r = inv.fits in omega arith);
+          filled = omega arith;
+          clear = λ _. clear;
+          counted = omega arith;
+          small = inv.small;
+          holds = sym (drop_all v.kept v.bytes (omega arith));
+          within = omega arith;
+          read = (let r = inv.read in omega arith);
+          past =
+              let p = inv.past in
+              record {
+                node = p.node;
+                there = p.there;
+                after = λ more last.
+                    subst (λ (n : ℕ). StandsAfter v.built.kind (plain_of v.built) (stream_from v.built (v.bytes ++ more) i.begun)
+                    (pending v.built chains i.rest) p.node n) place (p.after more last);
+                sound = p.sound;
+                near = p.near;
+                first = λ standard. record {
+                  left = (p.first standard).left;
+                  none = sym (ap (λ (n : ℕ). pick v.built.kind (record (stream_from v.built v.bytes i.begun) { high = n })) place)
+                      ∙ (p.first standard).none;
+                };
+              };
+          given = inv.given;
+          all = inv.all;
+          failed = λ failed. absurd (let no = sym ended ∙ failed in cc);
+          few = inv.few;
+          in_buffer = omega arith;
+          after = inv.after;
+          kept_within = inv.kept_within;
+          back = back-read;
+        }
+
 -- where all matches that are settled were given, they are given once there is room
 pub settled-as : (old mid inside : Streaming) → inside ≡ mid → mid ≡ record old { front = mid.front }
     → HasGivenSettled old old → HasGivenSettled inside inside
 settled-as old mid inside is same settled = grind (arith, common_steps)
 
--- what is seen after a read, by what was seen before it and once there was room
-pub seen-as : (old mid inside : Streaming) → inside ≡ mid → mid ≡ record old { front = mid.front }
-    → (n : ℕ) → n ≡ inside.buffer → (phase : Phase)
-    → record inside { phase = phase; buffer = n } ≡ record old { front = inside.front; phase = phase }
-seen-as old mid inside is same n size phase = cc
+-- what is seen once it was closed after a read, by what was seen before that and once there was room
+pub closed-as : (old mid inside : Streaming) → inside ≡ mid → mid ≡ record old { front = mid.front }
+    → (n : ℕ) → n ≡ inside.buffer → (phase : Phase) → {new : Streaming}
+    → new ≡ record inside { buffer = n; front = inside.kept; phase = phase }
+    → new ≡ record old { front = old.kept; phase = phase }
+closed-as old mid inside is same n size phase closed = cc
 
 -- what is seen once all that was read was searched, and a read has failed then
 pub failed-as : (old between searched new : Streaming) (more : List ℕ)
     → between ≡ record old { bytes = old.bytes ++ more; front = between.front; kept = between.kept }
-    → HasGivenSettled between searched → new ≡ record searched { front = new.front; phase = Failed }
-    → new ≡ record old { bytes = old.bytes ++ more; front = new.front; kept = new.kept; phase = Failed }
+    → HasGivenSettled between searched → new ≡ record searched { front = searched.kept; phase = Failed }
+    → new ≡ record old { bytes = old.bytes ++ more; front = new.kept; kept = new.kept; phase = Failed }
 failed-as old between searched new more read all failed = grind (arith, common_steps)
 
 -- bytes of the stream as they stand in the buffer

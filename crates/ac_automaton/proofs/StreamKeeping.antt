@@ -124,6 +124,7 @@ module _ {stands : ℕ → Node → Type 0} {chains : List (List ChainMatch)} {i
         long = inv.long;
         fits = inv.fits;
         filled = inv.filled;
+        clear = inv.clear;
         counted = inv.counted;
         small = inv.small;
         holds = inv.holds;

@@ -1,5 +1,5 @@
 -- What is seen of a search over a stream, and what its calls do.
-use Rattle.std.specs.Prelude.{◌≡◌, ◌≢◌, ◌⊎◌, ℕ, ◌+◌, ◌-◌, ◌<◌, ◌≤◌, Bool, true, not, List, [], ◌++◌, Option, None, Some, IfSome, Result, MatchBool, MatchOption, MatchResult, if◌then◌else◌, length, max, slice_get, take, drop}
+use Rattle.std.specs.Prelude.{All, ◌≡◌, ◌≢◌, ◌⊎◌, ℕ, ◌+◌, ◌-◌, ◌<◌, ◌≤◌, Bool, true, not, List, [], ◌++◌, Option, None, Some, IfSome, Result, MatchBool, MatchOption, MatchResult, if◌then◌else◌, length, max, slice_get, take, drop}
 use Rattle.ac_util.specs.Commits.{StandsAfter}
 use Rattle.ac_automaton.specs.Util.{buffer_len, Built, FailsToRead, is_leftmost, IsNear, IsSettledBy, last_end, longest_len, No, Node, Occurrence, pick, Reading, ReadsAll, ReadsSome, reserve, Search, Standard, stream_refusal, stream_result, StreamError, walk_after, usize_max}
 use Rattle.ac_automaton.specs.declared.automaton.stream_settled.Phase.{Phase}
@@ -98,10 +98,10 @@ pub record MeetsEnd (ends : Bool) (old new : Streaming) (reader new_reader : Rea
   pub reads : ReadsAll ends reader new_reader []
   pub same : new ≡ record old { front = new.front; phase = Ended }
 
--- or a read has failed, or brought more than usize counts
+-- or a read has failed, or brought more than usize counts: no byte is left in the buffer that isn't kept
 pub record FailsToFill (old new : Streaming) (reader new_reader : Reading) (e : StreamError) : Type 0 where
   pub reads : FailsToRead (length old.bytes) reader new_reader [] e
-  pub same : new ≡ record old { front = new.front; phase = Failed }
+  pub same : new ≡ record old { front = old.kept; phase = Failed }
 
 -- a read was made, which says whether some bytes came
 abbrev pub Fills : Bool → Streaming → Result Bool StreamError → Streaming → Reading → Reading → Type 0
@@ -140,7 +140,7 @@ pub record GivesNextMatch (ends : Bool) (old : Streaming) (m : Occurrence) (new 
   }
 
 -- all matches of what was read that are settled were given, and then a read has failed, or brought more than usize counts,
--- which counts all before it; no more bytes are kept than the longest pattern has
+-- which counts all before it; no more bytes are kept than the longest pattern has, and no others are left in the buffer
 pub record GivesError (old : Streaming) (e : StreamError) (new : Streaming) (reader new_reader : Reading)
     : Type 0 where
   pub open' : old.phase ≡ Open
@@ -150,9 +150,9 @@ pub record GivesError (old : Streaming) (e : StreamError) (new : Streaming) (rea
   pub settled : IsSettledBy old.built.kind old.built (old.bytes ++ more) old.given new.kept
   pub few : kept_len new ≤ longest_len old.built.patterns
   pub small : length (old.bytes ++ more) ≤ usize_max
-  pub same : new ≡ record old { bytes = old.bytes ++ more; front = new.front; kept = new.kept; phase = Failed }
+  pub same : new ≡ record old { bytes = old.bytes ++ more; front = new.kept; kept = new.kept; phase = Failed }
 
--- all matches of the stream were given, and its end was met; usize counts its bytes, and none is kept
+-- all matches of the stream were given, and its end was met; usize counts its bytes, and none is kept or left in the buffer
 pub record EndsNow (ends : Bool) (old new : Streaming) (reader new_reader : Reading) : Type 0 where
   pub more : List ℕ
   pub reads : GoesOnBy ends old.phase Ended reader new_reader more
@@ -161,7 +161,7 @@ pub record EndsNow (ends : Bool) (old new : Streaming) (reader new_reader : Read
   pub small : length (old.bytes ++ more) ≤ usize_max
   pub same : new ≡ record old {
     bytes = old.bytes ++ more;
-    front = new.front;
+    front = length (old.bytes ++ more);
     kept = length (old.bytes ++ more);
     phase = Ended;
   }
@@ -179,10 +179,15 @@ StreamsOn ends old result new reader new_reader =
     (λ item. MatchResult item (λ m. GivesNextMatch ends old m new reader new_reader)
     (λ e. GivesError old e new reader new_reader))
 
+-- there is no match any more, and no byte is left in the buffer that isn't kept
+pub record HasGivenLast (old new : Streaming) : Type 0 where
+  pub given : HasGivenSettled old (record new { front = old.front })
+  pub forgets : new.front ≡ new.kept
+
 -- once the end was met there is nothing to read: the next match was given, or there is none any more
 abbrev pub GivesLast : Streaming → Option (Result Occurrence StreamError) → Streaming → Type 0
 GivesLast old result new =
-    MatchOption result (HasGivenSettled old new) (λ item. MatchResult item (λ m. GivesMatch old m new) (λ e. ⊥))
+    MatchOption result (HasGivenLast old new) (λ item. MatchResult item (λ m. GivesMatch old m new) (λ e. ⊥))
 
 -- as far as which offset nothing is kept, all where the end was met
 abbrev pub kept_from : Phase → ℕ → ℕ → ℕ
@@ -260,6 +265,7 @@ pub record IsStreaming (stands : ℕ → Node → Type 0) (chains : List (List C
   pub long : length i.buffer ≡ buffer_len v.built.patterns
   pub fits : longest_len v.built.patterns < length i.buffer
   pub filled : i.filled ≤ length i.buffer
+  pub clear : v.phase ≢ Open → All (λ b. b ≡ 0) (drop i.filled i.buffer)
   pub counted : length v.bytes ≡ v.front + i.filled
   pub small : length v.bytes ≤ usize_max
   pub holds : take i.filled i.buffer ≡ drop v.front v.bytes

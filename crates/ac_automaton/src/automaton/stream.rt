@@ -136,7 +136,8 @@ impl<'a, A: Automaton, Z: Allocator> StreamFinder<'a, A, Z> {
 
     /// Returns how many bytes of the stream are kept: all that were read from the end of the last returned match on.
     /// Once all settled matches of what was read were returned, only as many of these are kept as a match to come may
-    /// need. After an error they are no more than the longest pattern has, and after the end there are none.
+    /// need. After an error they are no more than the longest pattern has, and after the end there are none: then no
+    /// other byte of the stream is left in the buffer.
     pub fn kept_len(&self) -> usize
         ensures { result ≡ kept_len self.now }
     {
@@ -213,7 +214,7 @@ impl<'a, A: Automaton, Z: Allocator> StreamFinder<'a, A, Z> {
         self.make_room();
         match read_after(reader, &mut self.buffer, self.filled) {
             Ok(0) => {
-                self.phase = Phase::Ended;
+                self.close(Phase::Ended);
                 Ok(false)
             }
             Ok(n) if self.front + self.filled <= usize::MAX - n => {
@@ -223,11 +224,11 @@ impl<'a, A: Automaton, Z: Allocator> StreamFinder<'a, A, Z> {
                 Ok(true)
             }
             Ok(_) => {
-                self.phase = Phase::Failed;
+                self.close(Phase::Failed);
                 Err(StreamError::TooLong)
             }
             Err(e) => {
-                self.phase = Phase::Failed;
+                self.close(Phase::Failed);
                 Err(StreamError::Io(e))
             }
         }
@@ -240,14 +241,49 @@ impl<'a, A: Automaton, Z: Allocator> StreamFinder<'a, A, Z> {
         ensures same { self.new ≡ record self.old { front = self.new.front } }
         ensures room { length self.new.bytes < self.new.front + self.new.buffer }
     {
-        if self.filled < self.buffer.len() {
-            return;
+        if self.filled == self.buffer.len() {
+            self.move_kept();
         }
+    }
+
+    /// Moves the bytes that are kept to the front of the buffer.
+    fn move_kept(&mut self)
+        requires goes_on { self.old.phase ≡ Open }
+        ensures { self.new ≡ record self.old { front = self.old.kept } }
+    {
         let from = self.kept - self.front;
         self.buffer.copy_within(from..self.filled, 0);
         self.filled -= from;
         self.at -= from;
         self.front = self.kept;
+    }
+
+    /// Closes the stream: nothing is read any more. Of its bytes those that are kept are left in the buffer, and no others.
+    fn close(&mut self, phase: Phase)
+        requires goes_on { self.old.phase ≡ Open }
+        requires settled { HasGivenSettled self.old self.old }
+        requires closed { phase ≢ Open }
+        ensures { self.new ≡ record self.old { front = self.old.kept; phase = phase } }
+    {
+        self.move_kept();
+        let filled = self.filled;
+        self.buffer[filled..].fill(0);
+        self.phase = phase;
+    }
+
+    /// Forgets what is left in the buffer, once the end was met and no byte is kept.
+    fn forget(&mut self)
+        requires ended { self.old.phase ≡ Ended }
+        requires none { self.old.kept ≡ length self.old.bytes }
+        ensures { self.new ≡ record self.old { front = self.old.kept } }
+    {
+        if self.front == self.kept {
+            return;
+        }
+        self.buffer.fill(0);
+        self.front = self.kept;
+        self.filled = 0;
+        self.at = 0;
     }
 
     /// Returns the next match of the stream, and reads on as far as that needs.
@@ -285,7 +321,10 @@ impl<'a, A: Automaton, Z: Allocator> StreamFinder<'a, A, Z> {
     {
         match self.next_read() {
             Some(found) => Some(Ok(found)),
-            None => None,
+            None => {
+                self.forget();
+                None
+            }
         }
     }
 }

@@ -1,12 +1,11 @@
-use Rattle.std.proofs.Common.{◌≡◌, ◌∙◌, ◌+◌, ◌-◌, ◌≤◌, ◌≢◌, ◌++◌, ℕ, List, length, length-append, length-drop, take, drop, sym, ap, subst, arith, rules}
+use Rattle.std.proofs.Common.{◌≡◌, ◌∙◌, ◌+◌, ◌-◌, ◌≤◌, ◌≢◌, ◌++◌, ℕ, List, length, length-append, length-drop, take, drop, sym, ap, subst, arith}
 use Rattle.std.proofs.lemmas.List.{length-take-le}
-use Rattle.std.proofs.lemmas.Grind.{common_steps}
 use Rattle.ac_util.proofs.Devices.{not-idle}
 use Rattle.ac_util.specs.Stream.{stream_result}
 use Rattle.ac_automaton.specs.Streams.{Streaming, matches_so_far}
 use Rattle.ac_automaton.proofs.Places.{written-whole}
 use Rattle.ac_automaton.specs.Prelude.{Failed, Open}
-use Rattle.ac_automaton.proofs.StreamFilling.{filled-as, given-stays, seen-as, settled-as, streams-ended, streams-failed, streams-filled}
+use Rattle.ac_automaton.proofs.StreamFilling.{closed-as, filled-as, given-stays, streams-filled}
 use Rattle.ac_automaton.proofs.automaton.stream.StreamFinder.fill.Given.{Over}
 use Rattle.ac_automaton.proofs.automaton.stream.StreamFinder.fill.Goals.{After-read_after}
 use Rattle.ac_automaton.proofs.automaton.stream.StreamFinder.fill.Goals as goal
@@ -50,11 +49,6 @@ invariant_of-self-then-self-n g c =
           ∙ ap (λ (b : List ℕ). take n (drop at b)) (c.deref.ensures.value ∙ whole g d)));
     }
 
-pub returns-in-Ok-2 : goal.returns-in-Ok-2
-returns-in-Ok-2 g c =
-    let d = (goal.at.returns-in-Ok-2 g c).After-read_after in
-    record { reads = search (rules, length-take-le, not-idle); same = seen-as c.args.self.now c.make_room.new.self _ c.self.view_is c.make_room.ensures.same _ (as_long g d) Failed }
-
 pub returns-in-Ok : goal.returns-in-Ok
 returns-in-Ok g c =
     let d = (goal.at.returns-in-Ok g c).After-read_after in
@@ -93,37 +87,25 @@ returns-in-Ok g c =
           ∙ ap (λ (v : Streaming). take v.given (matches_so_far v)) e;
     }
 
-pub invariant_of-self : goal.invariant_of-self
-invariant_of-self g c =
-    let d = (goal.at.invariant_of-self g c).After-read_after in
+-- or more bytes than usize counts
+pub returns-in-Ok-2 : goal.returns-in-Ok-2
+returns-in-Ok-2 g c =
+    let took = c.in-Ok.ensures.reads in
+    let at = c.self.inside.filled in
+    let n = c.in-Ok.n in
+    let into = drop at c.read_after.new.buffer in
+    let size = length-take-le n into took.within in
     record {
-      commits = c.self.invariant.commits;
-      streams = streams-ended _ _ _ _ c.self.invariant.streams (opens g d) _ (as_long g d) (keeps g d)
-          (settled-as _ _ _ c.self.view_is c.make_room.ensures.same c.requires.settled);
+      reads = record {
+        lost = take n into;
+        too_many = (let k = c.self.invariant.streams.counted in
+            let e = ap (λ (v : Streaming). length v.bytes) (c.self.view_is ∙ c.make_room.ensures.same) in
+            let w = took.within in let d = length-drop at c.read_after.new.buffer in omega (arith, c.if-self-n.false));
+        moved = took.moved;
+        failed = took.failed;
+        empties = (let e = took.empties in let i = not-idle n (length into)
+            (λ e. absurd (omega (arith, c.in-Ok.n-test))) in omega arith);
+      };
+      same = closed-as c.args.self.now c.make_room.new.self _ c.self.view_is c.make_room.ensures.same _
+          (as_long g (goal.at.returns-in-Ok-2 g c).After-read_after) Failed c.close-in-Ok-2.ensures;
     }
-
-pub invariant_of-self-in-Ok-2 : goal.invariant_of-self-in-Ok-2
-invariant_of-self-in-Ok-2 g c =
-    let d = (goal.at.invariant_of-self-in-Ok-2 g c).After-read_after in
-    record {
-      commits = c.self.invariant.commits;
-      streams = streams-failed _ _ _ _ c.self.invariant.streams (opens g d) _ (as_long g d) (keeps g d)
-          (settled-as _ _ _ c.self.view_is c.make_room.ensures.same c.requires.settled);
-    }
-
-pub invariant_of-self-in-Err : goal.invariant_of-self-in-Err
-invariant_of-self-in-Err g c =
-    let d = (goal.at.invariant_of-self-in-Err g c).After-read_after in
-    record {
-      commits = c.self.invariant.commits;
-      streams = streams-failed _ _ _ _ c.self.invariant.streams (opens g d) _ (as_long g d) (keeps g d)
-          (settled-as _ _ _ c.self.view_is c.make_room.ensures.same c.requires.settled);
-    }
-
-pub returns-in-Err : goal.returns-in-Err
-returns-in-Err g c =
-    let d = (goal.at.returns-in-Err g c).After-read_after in
-    record { reads = search rules; same = seen-as c.args.self.now c.make_room.new.self _ c.self.view_is c.make_room.ensures.same _ (as_long g d) Failed }
-
-pub returns-in-Ok-eq0 : goal.returns-in-Ok-eq0
-returns-in-Ok-eq0 g c = grind (arith, common_steps)
