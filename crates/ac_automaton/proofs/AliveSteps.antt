@@ -9,7 +9,8 @@ use Rattle.ac_util.specs.Commits.{StandsAfter}
 use Rattle.ac_util.proofs.Onward.{after-byte, byte_at}
 use Rattle.ac_automaton.specs.Prelude.{AutomatonView, Cursor, matches_of, node_at, plain_of, step_of}
 use Rattle.ac_automaton.specs.Automata.{StepsTo, Tells}
-use Rattle.ac_automaton.specs.Onward.{ComesAlive, IsSearchOf, PassesNone, StopsAlive, TellsStop}
+use Rattle.ac_automaton.specs.Onward.{ComesAlive, IsSearchOf, PassesNone, StopsAlive}
+use Rattle.ac_automaton.specs.Scans.{scan_of, TellsStop}
 use Rattle.ac_automaton.proofs.Heads.{nil-from_not}
 
 module _ (a : AutomatonView) (stops : Bool) (bytes : List ℕ) (to : ℕ) where
@@ -93,7 +94,7 @@ module _ (a : AutomatonView) (stops : Bool) (bytes : List ℕ) (to : ℕ) where
           alive-stops gone = record { comes = comes; passes = passes-here; over = (before, is, (tells No _ leads-to).0 gone) }
 
           -- to a state with matches at which it stops
-          pub alive-match : dead ≡ false → (stop : Bool) → TellsStop a stops next stop → stop ≡ true
+          pub alive-match : dead ≡ false → (stop : Bool) → TellsStop (scan_of a No) stops next stop → stop ≡ true
               → StopsAlive a stops bytes to v cursor there None
           alive-match alive' stop tells-stop is-stop = by (step_of a.built No (Some comes.node) byte) refl
             where
@@ -109,7 +110,7 @@ module _ (a : AutomatonView) (stops : Bool) (bytes : List ℕ) (to : ℕ) where
               }
 
         -- or on
-        module _ (stop : Bool) (tells-stop : TellsStop a stops next stop) (goes : stop ≡ false)
+        module _ (stop : Bool) (tells-stop : TellsStop (scan_of a No) stops next stop) (goes : stop ≡ false)
             (lists : (u : Node) → a.stands No next u → a.listed next ≡ matches_of a.built No u) where
           -- there the state has no matches if it stops at them
           nothing : stops ≡ true → (u : List ℕ) → step_of a.built No (Some comes.node) byte ≡ Some u

@@ -1,5 +1,5 @@
 -- What a leftmost walk has come to that reads each byte once, and what it has counted.
-use Rattle.std.specs.Prelude.{◌≡◌, ℕ, ◌+◌, ◌-◌, ◌*◌, ◌<◌, ◌≤◌, Bool, false, true, IsTrue, ◌↔◌, ◌≢◌, ◌⊎◌, List, [], length, map, drop, slice_get, slice_index, Option, None, Some, IfSome, MatchBool, MatchOption, option_map}
+use Rattle.std.specs.Prelude.{◌≡◌, ℕ, ◌+◌, ◌-◌, ◌*◌, ◌<◌, ◌≤◌, Bool, false, true, ◌≢◌, ◌⊎◌, List, [], length, map, drop, slice_get, slice_index, Option, None, Some, IfSome, MatchBool, MatchOption, option_map}
 use Rattle.ac_automaton.specs.Util.{Built, Counts, credit, from, may_skip, No, Node, Occurrence, pattern_of, pick, Search, Span, Taped, usize_max}
 use Rattle.ac_util.specs.Prelude.{outward}
 use Rattle.ac_automaton.specs.declared.automaton.commits.ChainMatch.{ChainMatch}
@@ -89,11 +89,6 @@ pub record StopsAlive (a : AutomatonView) (stops : Bool) (bytes : List ℕ) (to 
 abbrev pub ReadsAlive : AutomatonView → Bool → List ℕ → ℕ → Cursor → Cursor → Option ℕ → Type 0
 ReadsAlive a stops bytes to cursor new_cursor byte =
     (v : List ℕ) → a.stands No cursor.state (Some v) → StopsAlive a stops bytes to v cursor new_cursor byte
-
--- a test tells whether nothing is to be read on from a state: it is dead, or has matches where the search stops at one
-abbrev pub TellsStop : AutomatonView → Bool → ℕ → Bool → Type 0
-TellsStop a stops s result =
-    (u : Node) → a.stands No s u → IsTrue result ↔ ((u ≡ None) ⊎ ((stops ≡ true) × (a.listed s ≢ [])))
 
 -- how many bytes are in hand
 abbrev pub in_hand : Option ℕ → ℕ

@@ -12,7 +12,7 @@ ghost use Rattle.ac_automaton.specs.Onward.{BeginsPast, GivesFrom, GivesNext, Gi
 
 use super::Automaton;
 use super::commits::{Chains, Commits};
-use super::scan::Cursor;
+use super::scan::{Cursor, Scanner};
 use super::skip::SkipBudget;
 use ac_util::looks::{Looks, Tape};
 use ac_util::prefilter::{FirstBytes, Needle};
@@ -404,7 +404,7 @@ pub(super) fn match_ending<A: Automaton>(automaton: &A, pattern: PatternID, end:
 }
 
 impl<'a, A: Automaton> Core<'a, A> {
-    ghost use Rattle.ac_automaton.specs.Onward.{GivesAt, IsCore, TellsStop};
+    ghost use Rattle.ac_automaton.specs.Onward.{GivesAt, IsCore};
 
     /// Reads on up to a byte that leads to the dead state, which it returns, or up to an offset, or if it stops at a match to a
     /// state that has some. The cursor stays before that byte.
@@ -421,36 +421,14 @@ impl<'a, A: Automaton> Core<'a, A> {
             → ReadsUpTo (A.seen self.now.automaton.now) tape.old to cursor.old looks.old cursor.new result tape.new looks.new }
         ensures comes { ReadsAlive (A.seen self.now.automaton.now) self.now.stops tape.old.bytes to cursor.old cursor.new result }
     {
-        let (mut state, mut at) = (cursor.state, cursor.at);
-        while at < to {
-            let byte = tape.read(at, looks);
-            let next = self.automaton.next_state(Anchored::No, state, byte, looks);
-            if self.is_to_stop(next) {
-                if self.automaton.is_dead(next) {
-                    *cursor = Cursor { state, at };
-                    return Some(byte);
-                }
-                let at = at + 1;
-                *cursor = Cursor { state: next, at };
-                return None;
-            }
-            state = next;
-            at += 1;
-        }
-        *cursor = Cursor { state, at };
-        None
-    }
-
-    /// Returns whether nothing is to be read on from a state: it is dead, or has matches where the search stops at one.
-    #[inline]
-    fn is_to_stop(&self, state: StateID) -> bool
-        requires state { IsState ((A.seen self.now.automaton.now).stands No) state }
-        ensures { TellsStop (A.seen self.now.automaton.now) self.now.stops state result }
-    {
-        if self.stops {
-            self.automaton.is_match_or_dead(state)
-        } else {
-            self.automaton.is_dead(state)
+        let scanner = Scanner {
+            automaton: self.automaton,
+            anchored: Anchored::No,
+            span: Span { start: 0, end: to },
+        };
+        match scanner.read(self.stops, cursor, tape, looks) {
+            Some(dead) => Some(dead.byte),
+            None => None,
         }
     }
 

@@ -2,11 +2,13 @@
 //!
 //! A search adds to it what it answers, and nothing else: where the automaton stands, what was read and what was
 //! counted is kept here.
-ghost use Rattle.std.specs.Prelude.{◌≡◌};
+ghost use Rattle.std.specs.Prelude.{◌≡◌, false, true};
+ghost use Rattle.ac_automaton.specs.Util.{No};
 ghost use Rattle.ac_automaton.specs.Automata.{IsState};
 ghost use Rattle.ac_automaton.specs.Finds.{FindsAt, StandsIn};
 ghost use Rattle.ac_automaton.specs.Overlaps.{is_due};
-ghost use Rattle.ac_automaton.specs.Scans.{Advances, Follows, MayAdvance, Stops, TellsOver, scanner};
+ghost use Rattle.ac_automaton.specs.Onward.{ReadsAlive, ReadsUpTo};
+ghost use Rattle.ac_automaton.specs.Scans.{Advances, Follows, MayAdvance, MayRead, ReadsAhead, Stops, TellsOver, TellsStop, byte_of, scanner};
 
 use super::Automaton;
 use ac_util::looks::{Looks, Tape};
@@ -18,6 +20,13 @@ use ac_util::search::{Anchored, Match, Span};
 pub(super) struct Cursor {
     pub(super) state: StateID,
     pub(super) at: usize,
+}
+
+/// A byte that leads to the dead state, and where an automaton stands past it.
+#[derive(Clone, Copy)]
+pub(super) struct Dead {
+    pub(super) byte: u8,
+    pub(super) past: Cursor,
 }
 
 /// Returns whether a match of this length counts after so many bytes of the span were read. In an anchored search it
@@ -58,6 +67,63 @@ impl<'a, A: Automaton> Scanner<'a, A> {
             .next_state(self.anchored, cursor.state, byte, looks)
     }
 
+    /// Reads on up to a byte that leads to the dead state, which it returns, or up to the end of the span, or if it stops at a
+    /// match to a state that has some. The cursor stays before that byte.
+    #[inline]
+    pub(super) fn read(
+        &self,
+        stops: bool,
+        cursor: &mut Cursor,
+        tape: &mut Tape<'_>,
+        looks: &mut Looks,
+    ) -> Option<Dead>
+        requires may { MayRead (scanner A.seen self.now) tape.old cursor.old }
+        ensures advances { stops ≡ true
+            → ReadsAhead (scanner A.seen self.now) cursor.old tape.old looks.old result cursor.new tape.new looks.new }
+        ensures reads { self.now.anchored ≡ No → stops ≡ false → ReadsUpTo (A.seen self.now.automaton.now) tape.old
+            self.now.span.end cursor.old looks.old cursor.new (byte_of result) tape.new looks.new }
+        ensures comes { self.now.anchored ≡ No → ReadsAlive (A.seen self.now.automaton.now) stops tape.old.bytes
+            self.now.span.end cursor.old cursor.new (byte_of result) }
+    {
+        let (mut state, mut at) = (cursor.state, cursor.at);
+        let end = self.span.end;
+        while at < end {
+            let byte = tape.read(at, looks);
+            let next = self
+                .automaton
+                .next_state(self.anchored, state, byte, looks);
+            if self.is_to_stop(stops, next) {
+                let past = Cursor {
+                    state: next,
+                    at: at + 1,
+                };
+                if self.automaton.is_dead(next) {
+                    *cursor = Cursor { state, at };
+                    return Some(Dead { byte, past });
+                }
+                *cursor = past;
+                return None;
+            }
+            state = next;
+            at += 1;
+        }
+        *cursor = Cursor { state, at };
+        None
+    }
+
+    /// Returns whether nothing is to be read on from a state: it is dead, or has matches where the search stops at one.
+    #[inline]
+    fn is_to_stop(&self, stops: bool, state: StateID) -> bool
+        requires state { IsState (scanner A.seen self.now).scan.stands state }
+        ensures { TellsStop (scanner A.seen self.now).scan stops state result }
+    {
+        if stops {
+            self.automaton.is_match_or_dead(state)
+        } else {
+            self.automaton.is_dead(state)
+        }
+    }
+
     /// Reads on up to a state that has matches or is dead, or up to the end of the span: by a byte at least.
     #[inline]
     pub(super) fn read_ahead(&self, cursor: &mut Cursor, tape: &mut Tape<'_>, looks: &mut Looks)
@@ -65,15 +131,8 @@ impl<'a, A: Automaton> Scanner<'a, A> {
         ensures advances { Advances (scanner A.seen self.now) cursor.old tape.old looks.old cursor.new tape.new looks.new }
         ensures stops { Stops (scanner A.seen self.now) cursor.new }
     {
-        let (mut state, mut at) = (cursor.state, cursor.at);
-        let end = self.span.end;
-        loop {
-            state = self.read_byte(Cursor { state, at }, tape, looks);
-            at += 1;
-            if at >= end || self.automaton.is_match_or_dead(state) {
-                *cursor = Cursor { state, at };
-                return;
-            }
+        if let Some(dead) = self.read(true, cursor, tape, looks) {
+            *cursor = dead.past;
         }
     }
 
