@@ -10,6 +10,7 @@ use Rattle.ac_util.proofs.Commits.{commits-nil}
 use Rattle.ac_util.proofs.NodeCommits.{node-paid, node-shorter}
 use Rattle.ac_util.proofs.NodePicks.{match-picked}
 use Rattle.ac_util.proofs.Onward.{byte_at}
+use Rattle.ac_util.proofs.SearchLoop.{step-paid}
 use Rattle.ac_automaton.specs.Prelude.{AutomatonView, Cursor, matches_of, place_of, plain_of, search_of, step_of, Work}
 use Rattle.ac_automaton.specs.Commits.{chain_at, ending_in, IsCommit, reads_on}
 use Rattle.ac_automaton.specs.Onward.{chain_of, first_given, GivesAt, GivesOf, HasCounted, HasGiven, HasStopped, in_hand, IsCounted, IsGiven, IsOnward, IsRestBefore, MayTakeFrom, pending, TakesKnown, tried}
@@ -146,6 +147,7 @@ module _ (a : AutomatonView) (on : reads_on a.built ≡ true) (chains : List (Li
       by None h ends counted = record {
         answer = sym (ends-there a on chains q is refl v cursor.at here ends none);
         place = place-within;
+        looks = (let p = counted.paid in omega arith);
         goes = grind (arith, common_steps, ends, counted);
       }
       by (Some b) h dead counted =
@@ -184,14 +186,25 @@ module _ (a : AutomatonView) (on : reads_on a.built ≡ true) (chains : List (Li
             ns gives.node gives.gives (plain_byte a.built.ignores_case b)
             (has-bytes a on chains q is refl v cursor.at here given gives) dead a.most
 
-    pub given-some : (rest : Option ChainRest)
+    -- and was before it was given
+    tried-paid : (a.most ≡ 1) ⊎ (a.most ≡ 2) → tried a q start v byte ≤ credit a.most (Some v) + a.most * in_hand byte
+    tried-paid one_or_two = by byte
+      where
+        by : (hand : Option ℕ) → tried a q start v hand ≤ credit a.most (Some v) + a.most * in_hand hand
+        by None = omega arith
+        by (Some b) =
+            let paid = step-paid a.most a.built.kind (plain_of a.built) No (Some v) (plain_byte a.built.ignores_case b) one_or_two in
+            omega arith
+
+    pub given-some : (a.most ≡ 1) ⊎ (a.most ≡ 2) → (rest : Option ChainRest)
         → rest ≡ option_map (λ (number : ℕ). record { chain = number; index = 0; base = base }) given.chain
         → HasGiven a chains q start (Some (place_of a.built base given.pattern)) rest (record { state = given.next; at = cursor.at }) byte work
-    given-some rest rest-is =
+    given-some one_or_two rest rest-is =
         let onward = onward a on chains q is refl v cursor.at here given gives over in
         record {
           answer = sym (picks-first a on chains q is refl v cursor.at here given gives over);
           place = place-within;
+          looks = (let t = tried-paid one_or_two in let p = stopped.counted.paid in omega arith);
           goes = (
             sound rest rest-is,
             record {
@@ -258,6 +271,7 @@ module _ (a : AutomatonView) (on : reads_on a.built ≡ true) (chains : List (Li
   chain-given = record {
     answer = sym (picks-known a on chains searched searched-is refl onward.node cursor.at rest onward.stands.after found there);
     place = within-end bytes byte onward.stands.after.inside onward.stands.hand onward.unread;
+    looks = (let p = onward.counted.paid in omega arith);
     goes = (
       (sound.0, (let i = sound.1 in let o = chain-onward in omega arith)),
       record {

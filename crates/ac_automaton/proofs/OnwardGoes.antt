@@ -80,6 +80,23 @@ module _ {A M : Type 0} {seen : A → AutomatonView} {old known : Onward A M} {s
 -- a walk by a single pattern has read on as far as it reads, or to where its prefilter may find that
 module _ {A M : Type 0} {seen : A → AutomatonView} {old read : Onward A M} {tape : Taped} {end : ℕ} {counts : Counts} {new_tape : Taped}
     {new_counts : Counts} (keeps : KeepsOnward old read) where
+  -- there it may read on
+  pub only-on : ReadsToStart seen old tape end counts true read new_tape new_counts
+      → MayReadOn (seen old.core.automaton.now) tape end old.cursor old.byte counts
+      → MayReadOn (seen read.core.automaton.now) new_tape end read.cursor read.byte new_counts
+  only-on reads may =
+      subst (λ (a : AutomatonView). MayReadOn a new_tape end read.cursor read.byte new_counts)
+      (sym (ap (λ (o : Onward A M). seen o.core.automaton.now) keeps))
+      (record {
+        low = may.low;
+        start = may.start;
+        onward =
+            subst (λ (bs : List ℕ). IsOnward (seen old.core.automaton.now) (search_in seen old bs may.low end) may.start [] read.cursor
+            read.byte (work_of new_tape new_counts)) (sym reads.bytes) (reads.reads may.low may.start may.onward);
+        on = may.on;
+        inside = subst (λ (bs : List ℕ). end ≤ length bs) (sym reads.bytes) may.inside;
+      })
+
   -- it has given what that has found
   pub only-found : ReadsToStart seen old tape end counts true read new_tape new_counts → {found : Option Occurrence} (new : Onward A M)
       {last_counts : Counts} → GivesFrom seen read new_tape end new_counts found new new_tape last_counts

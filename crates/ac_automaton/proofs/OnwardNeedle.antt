@@ -110,6 +110,10 @@ module _ (a : AutomatonView) (on : reads_on a.built ≡ true) {needle : List ℕ
             paid = (let h = c.paid in let same = ap (λ (n : ℕ). a.most * n) r in omega arith);
           }
 
+      -- so its looks are paid as they were before
+      looks-paid : new_counts.looks ≤ a.most * new_counts.reads + (low - start)
+      looks-paid = let p = (counted-past end low before (omega arith)).paid in omega arith
+
       -- where it answers none the walk has ended
       pub needle-none : IsNeedleMatch needle bytes at end None → (rest : Option ChainRest) (cursor : Cursor) (byte : Option ℕ)
           → HasGiven a chains q start None rest cursor byte new_work
@@ -118,6 +122,7 @@ module _ (a : AutomatonView) (on : reads_on a.built ≡ true) {needle : List ℕ
           record {
             answer = sym (pick-is None found);
             place = (let u = onward.unread in omega arith);
+            looks = looks-paid;
             goes = record {
               reads = (let h = c.reads in omega arith);
               whole = λ zero. let h = c.whole zero in omega arith;
@@ -141,6 +146,7 @@ module _ (a : AutomatonView) (on : reads_on a.built ≡ true) {needle : List ℕ
           record {
             answer = sym (pick-is (Some m) found);
             place = (let u = onward.unread in omega arith);
+            looks = looks-paid;
             goes = (
               tt,
               record {

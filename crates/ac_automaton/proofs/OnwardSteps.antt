@@ -5,7 +5,8 @@ use Rattle.std.proofs.lemmas.List.{length-map}
 use Rattle.std.proofs.lemmas.Grind.{common_steps}
 use Rattle.ac_util.specs.Prelude.{depth, failure, is_node, looks_within}
 use Rattle.ac_util.specs.Commits.{IsSearchFor}
-use Rattle.ac_automaton.specs.Util.{Built, Counts, credit, is_leftmost, looks, MatchKind, may_skip, more_looks, No, Node, one_more_read, pattern_of, plain, plain_byte, Search, shortest_len, Taped}
+use Rattle.ac_automaton.specs.Util.{Built, Counts, credit, is_leftmost, looks, MatchKind, may_skip, more_looks, No, Node, one_more_read, pattern_of, plain, plain_byte, Search, shortest_len, Taped, Yes}
+use Rattle.ac_util.specs.declared.search.Anchored.{Anchored}
 use Rattle.ac_util.proofs.Onward.{after-byte}
 use Rattle.ac_util.proofs.SearchLoop.{step-paid}
 use Rattle.ac_util.proofs.Shortest.{shortest-least}
@@ -32,6 +33,15 @@ one-look most built u byte = by (most == 1)
     by : (t : Bool) → 1 ≤ (if t then 1 else looks built.kind (plain_of built) No u (plain_byte built.ignores_case byte))
     by true = omega arith
     by false = within-one built.kind (plain_of built) (depth u) u (plain_byte built.ignores_case byte)
+
+-- an anchored one too
+pub look-each : (most : ℕ) (built : Built) (anchored : Anchored) (u : Node) (byte : ℕ) → 1 ≤ looks_of most built anchored u byte
+look-each most built No u byte = one-look most built u byte
+look-each most built Yes u byte = by (most == 1)
+  where
+    by : (t : Bool) → 1 ≤ (if t then 1 else 1)
+    by true = omega arith
+    by false = omega arith
 
 -- a walk that reads each byte once is a leftmost one
 pub on-leftmost : (built : Built) → reads_on built ≡ true → is_leftmost built.kind ≡ true

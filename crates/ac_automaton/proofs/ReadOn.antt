@@ -27,6 +27,15 @@ below_next n P before now k up = elim (cases_lt k n) [ inl l ↦ before k l | in
 pub grows-trans : {a b c : Counts} → Grows a b → Grows b c → Grows a c
 grows-trans first second = grind (arith, common_steps)
 
+-- so has what stays as it is
+pub grows-same : (counts : Counts) → Grows counts counts
+grows-same counts = grind (arith, common_steps)
+
+-- and what counts a byte that was read, and its looks
+pub grows-byte : {counts read new_counts : Counts} {n : ℕ} → read ≡ one_more_read counts → new_counts ≡ more_looks n read → 1 ≤ n
+    → Grows counts new_counts
+grows-byte counted looked one = grind (arith, common_steps)
+
 -- a search that has read nothing
 pub read-nothing : (most : ℕ) (skips : Bool) (start end : ℕ) (work : Work)
     → work.place ≤ start → HasRead most skips start end work work

@@ -1,5 +1,5 @@
 -- A walk that finds match after match: what it has read and counted.
-use Rattle.std.proofs.Common.{◌≡◌, ℕ, ◌+◌, ◌-◌, ◌<◌, ◌≤◌, true, false, ◌∙◌, [], ◌∷◌, inl, inr, refl, sym, arith, Option, Some, None, IfSome, MatchOption, ◌==◌, max, min, rules}
+use Rattle.std.proofs.Common.{◌≡◌, ℕ, ◌+◌, ◌-◌, ◌<◌, ◌≤◌, Bool, MatchBool, true, false, ◌∙◌, [], ◌∷◌, inl, inr, refl, sym, arith, Option, Some, None, IfSome, MatchOption, ◌==◌, max, min, rules}
 use Rattle.std.proofs.lemmas.Bool.{and_parts, cases_Bool, eqb-true, false≢true}
 use Rattle.std.proofs.lemmas.Option.{IfSome_then}
 use Rattle.std.proofs.lemmas.Grind.{common_steps}
@@ -7,7 +7,8 @@ use Rattle.ac_automaton.specs.Util.{from, LeftmostFirst, LeftmostLongest, MatchK
 use Rattle.ac_util.proofs.OneLonger.{none-past_end}
 use Rattle.ac_util.proofs.Shortest.{shortest-least}
 use Rattle.ac_util.proofs.Walks.{pick-in_span, pick-Occurs, walk_after-None, walk_after-Some}
-use Rattle.ac_automaton.specs.Prelude.{after, Finds, GoesOn, HasFound, HasSearched, IsByFinds, IsUnderWay, kept_place, last_after, Picking, reads_past, Walking, Work}
+use Rattle.ac_automaton.proofs.ReadOn.{grows-trans}
+use Rattle.ac_automaton.specs.Prelude.{after, Finds, GoesOn, Grows, HasFound, HasSearched, IsByFinds, IsUnderWay, kept_place, last_after, Picking, reads_past, Walking, Work}
 
 -- a find of a walk reads from no place past the one read up to, and under Standard from just there
 kept : (order : MatchKind) (place : ℕ)
@@ -122,6 +123,20 @@ pub record HasGone (walking : Walking) (r : Option Occurrence) (new_walking : Wa
   pub goes_on : GoesOn walking r new_walking
   pub way : IsByFinds new_walking
 
+-- what its finds have counted has grown
+finds-grow : (walking : Walking) (work : Work) → Finds walking work → Grows walking.work.counts work.counts
+finds-grow walking work finds = by (repeats (pick walking.picking.order walking.left) walking.last) finds
+  where
+    by : (t : Bool) → MatchBool t
+        ((between : Work)
+        × HasFound walking walking.left (pick walking.picking.order walking.left) walking.work between
+        × HasFound walking (from walking.left (walking.left.low + 1))
+        (pick walking.picking.order (from walking.left (walking.left.low + 1))) between work)
+        (HasFound walking walking.left (pick walking.picking.order walking.left) walking.work work)
+        → Grows walking.work.counts work.counts
+    by true (between, first, second) = grows-trans first.read.grows second.read.grows
+    by false found = found.read.grows
+
 -- it has gone on where the next match is found by one find or by two
 pub has-gone : {walking : Walking} {work : Work} {r : Option Occurrence} → IsUnderWay walking
     → walking.rest ≡ walk_after walking.picking.order walking.left walking.last
@@ -139,6 +154,8 @@ has-gone {walking = walking} {work = work} {r = r} way rest is finds by_finds =
         next = is;
         same = refl;
         finds = λ _. finds;
+        grows = finds-grow walking work finds;
+        once = λ past. absurd (false≢true (sym by_finds ∙ past));
         paid = record { finds = λ _. still.paid; once = λ past. absurd (false≢true (sym by_finds ∙ past)) };
       };
       way = record { by_finds = by_finds; under_way = still };

@@ -9,7 +9,7 @@ use Rattle.ac_util.proofs.Onward.{after-low, after-start}
 use Rattle.ac_util.proofs.OneLonger.{none-past_end}
 use Rattle.ac_util.proofs.PickedWalks.{next-any}
 use Rattle.ac_util.proofs.Walks.{next-none, walk_after-None}
-use Rattle.ac_automaton.specs.Prelude.{after, AutomatonView, Finding, finding_of, Cursor, GoesOn, IsByFinds, IsPaidOnce, last_after, plain_of, reads_past, search_of, Walking, walking_of, Work, work_of}
+use Rattle.ac_automaton.specs.Prelude.{after, AutomatonView, Finding, finding_of, Cursor, GoesOn, Grows, HasReadOnce, IsByFinds, IsPaidOnce, last_after, plain_of, reads_past, search_of, Walking, walking_of, Work, work_of}
 use Rattle.ac_automaton.specs.Commits.{reads_on}
 use Rattle.ac_automaton.specs.Iterators.{reads_past_by}
 use Rattle.ac_automaton.specs.Onward.{BeginsPast, GoesOnward, HasGiven, in_hand, IsCounted, IsKept, IsOnward, IsOnwardIn, IsReadingPast, IsRestBefore, KeepsOnward, pending}
@@ -18,6 +18,7 @@ use Rattle.ac_automaton.specs.declared.automaton.onward.Onward.{Onward}
 use Rattle.ac_automaton.specs.declared.automaton.skip.SkipBudget.{SkipBudget}
 use Rattle.ac_automaton.proofs.OnwardGives.{within-end}
 use Rattle.ac_automaton.proofs.OnwardSteps.{on-leftmost, on-some}
+use Rattle.ac_automaton.proofs.ReadOn.{grows-same}
 use Rattle.ac_automaton.proofs.WalkLoop.{gives}
 
 -- a tape of which nothing was read
@@ -100,11 +101,12 @@ module _ {A M : Type 0} (seen : A → AutomatonView) (o : Onward A M) (tape : Ta
     abbrev work : Work
     work = record { place = place; counts = new_counts }
 
-    goes-by : (found : Option Occurrence) → found ≡ pick a.built.kind asked
+    goes-by : Grows counts new_counts → (found : Option Occurrence) → found ≡ pick a.built.kind asked
+        → HasReadOnce (walking_of (finding_of a No false) tape.bytes span last start (work_of tape counts)) found new_counts
         → IsPaidOnce (walking-at a tape.bytes span last start past.lawful.on inside ordered past.begun past.beyond found work)
         → GoesOn (walking_of (finding_of a No false) tape.bytes span last start (work_of tape counts)) found
         (walking-at a tape.bytes span last start past.lawful.on inside ordered past.begun past.beyond found work)
-    goes-by found answer paid =
+    goes-by grows found answer once paid =
         let same : found ≡ next_match a.built.kind asked last =
         answer ∙ sym (next-any a.built.kind (plain_of a.built) (on-some a.built past.lawful.on) asked
         (record { free = refl; ordered = ordered; inside = inside; same = refl }) last) in
@@ -113,6 +115,8 @@ module _ {A M : Type 0} (seen : A → AutomatonView) (o : Onward A M) (tape : Ta
           next = same;
           same = refl;
           finds = λ not. absurd (false≢true (sym not ∙ reads-past past));
+          grows = grows;
+          once = λ _. once;
           paid = record {
             finds = λ not. absurd (false≢true (sym not ∙ reads-past past));
             once = λ _. paid;
@@ -122,13 +126,14 @@ module _ {A M : Type 0} (seen : A → AutomatonView) (o : Onward A M) (tape : Ta
     abbrev moved : Onward A M
     moved = record o { cursor = cursor; byte = byte; rest = rest; budget = budget }
 
-    past-by : (found : Option Occurrence) → HasGiven a o.core.commits.now.chains asked start found rest cursor byte work
+    past-by : Grows counts new_counts → (found : Option Occurrence) → HasGiven a o.core.commits.now.chains asked start found rest cursor byte work
         → HasGonePast seen (finding_of a No false) tape.bytes span last start (work_of tape counts) found moved
         (record { bytes = tape.bytes; place = place }) new_counts
-    past-by None given =
+    past-by grows None given =
         let paid = paid-ended a tape.bytes span last start past.lawful.on inside ordered past.begun past.beyond {work = work} given.goes in
         record {
-          goes_on = goes-by None given.answer paid;
+          goes_on = goes-by grows None given.answer
+              (record { looks = (let l = given.looks in omega arith); rest = λ none. given.goes.whole }) paid;
           past = record {
             finds = refl;
             lawful = record { past = past.lawful.past; on = past.lawful.on; starts = past.lawful.starts; commits = past.lawful.commits; skips = past.lawful.skips; needle = past.lawful.needle };
@@ -137,13 +142,14 @@ module _ {A M : Type 0} (seen : A → AutomatonView) (o : Onward A M) (tape : Ta
             beyond = IfSome_then last past.beyond (λ e b. omega arith);
             sound = λ up. absurd (omega arith);
             onward = λ up. absurd (omega arith);
+            rest = λ _. given.goes.whole;
             ended = λ _. paid;
           };
         }
-    past-by (Some m) given =
+    past-by grows (Some m) given =
         let onward = given.goes.1 in
         record {
-          goes_on = goes-by (Some m) given.answer
+          goes_on = goes-by grows (Some m) given.answer (record { looks = (let l = given.looks in omega arith); rest = λ none. absurd (cc) })
               (paid-given a tape.bytes span last start past.lawful.on inside ordered past.begun past.beyond m onward);
           past = record {
             finds = refl;
@@ -153,6 +159,7 @@ module _ {A M : Type 0} (seen : A → AutomatonView) (o : Onward A M) (tape : Ta
             beyond = omega arith;
             sound = λ _. given.goes.0;
             onward = λ _. onward;
+            rest = λ over. absurd (let h = onward.ordered in omega arith);
             ended = λ over. absurd (let h = onward.ordered in omega arith);
           };
         }
@@ -161,10 +168,10 @@ module _ {A M : Type 0} (seen : A → AutomatonView) (o : Onward A M) (tape : Ta
 pub past-goes : {A M : Type 0} {seen : A → AutomatonView} {o : Onward A M} {finding : Finding} {tape : Taped} {span : Span}
     {last : Option ℕ} {start : ℕ} {counts : Counts} → span.end ≤ length tape.bytes → span.start ≤ span.end
     → IsReadingPast seen o finding tape span last start counts → (found : Option Occurrence) (new : Onward A M) (new_tape : Taped)
-    (new_counts : Counts) → KeepsOnward o new → new_tape.bytes ≡ tape.bytes
+    (new_counts : Counts) → Grows counts new_counts → KeepsOnward o new → new_tape.bytes ≡ tape.bytes
     → GoesOnward seen o span tape counts found new new_tape new_counts
     → HasGonePast seen finding tape.bytes span last start (work_of tape counts) found new new_tape new_counts
-past-goes {A} {M} {seen} {o} {finding} {tape} {span} {last} {start} {counts} inside ordered past found new new_tape new_counts keeps bytes goes =
+past-goes {A} {M} {seen} {o} {finding} {tape} {span} {last} {start} {counts} inside ordered past found new new_tape new_counts grows keeps bytes goes =
     subst (λ (f : Finding). HasGonePast seen f tape.bytes span last start (work_of tape counts) found new new_tape new_counts) (sym past.finds)
     (subst (λ (n : Onward A M). HasGonePast seen (finding_of (seen o.core.automaton.now) No false) tape.bytes span last start (work_of tape counts)
     found n new_tape new_counts) (sym keeps)
@@ -173,7 +180,7 @@ past-goes {A} {M} {seen} {o} {finding} {tape} {span} {last} {start} {counts} ins
     (sym bytes)
     (past-by seen o tape span last start counts inside ordered
     (subst (λ (f : Finding). IsReadingPast seen o f tape span last start counts) past.finds past)
-    new.cursor new.byte new.rest new.budget new_counts new_tape.place found (goes start (past.onward ordered)))))
+    new.cursor new.byte new.rest new.budget new_counts new_tape.place grows found (goes start (past.onward ordered)))))
 
 -- a new tape changes nothing of it
 pub with-fresh : {A M : Type 0} {seen : A → AutomatonView} {o : Onward A M} {finding : Finding} {tape : Taped} {span : Span}
@@ -194,6 +201,7 @@ with-fresh past = record {
     begun = o.begun;
     ordered = o.ordered;
   };
+  rest = past.rest;
   ended = λ over. let paid = past.ended over in record {
     looked = paid.looked;
     looks = paid.looks;
@@ -208,12 +216,12 @@ with-fresh past = record {
 pub fresh-goes : {A M : Type 0} {seen : A → AutomatonView} {o : Onward A M} {finding : Finding} {tape : Taped} {span : Span}
     {last : Option ℕ} {start : ℕ} {counts : Counts} → span.end ≤ length tape.bytes → span.start ≤ span.end
     → IsReadingPast seen o finding tape span last start counts → (new : Taped) → new ≡ fresh tape.bytes → (found : Option Occurrence)
-    (new_onward : Onward A M) (new_tape : Taped) (new_counts : Counts) → KeepsOnward o new_onward → new_tape.bytes ≡ new.bytes
+    (new_onward : Onward A M) (new_tape : Taped) (new_counts : Counts) → Grows counts new_counts → KeepsOnward o new_onward → new_tape.bytes ≡ new.bytes
     → GoesOnward seen o span new counts found new_onward new_tape new_counts
     → HasGonePast seen finding tape.bytes span last start (work_of tape counts) found new_onward new_tape new_counts
-fresh-goes {seen = seen} {o = o} {finding = finding} {tape = tape} {span = span} {last = last} {start = start} {counts = counts} inside ordered past new is found new_onward new_tape new_counts keeps bytes goes =
+fresh-goes {seen = seen} {o = o} {finding = finding} {tape = tape} {span = span} {last = last} {start = start} {counts = counts} inside ordered past new is found new_onward new_tape new_counts grows keeps bytes goes =
     let gone =
-    past-goes inside ordered (with-fresh past) found new_onward new_tape new_counts keeps (bytes ∙ ap (λ (t : Taped). t.bytes) is)
+    past-goes inside ordered (with-fresh past) found new_onward new_tape new_counts grows keeps (bytes ∙ ap (λ (t : Taped). t.bytes) is)
     (subst (λ (t : Taped). GoesOnward seen o span t counts found new_onward new_tape new_counts) is goes) in
     record {
       goes_on = record {
@@ -221,6 +229,8 @@ fresh-goes {seen = seen} {o = o} {finding = finding} {tape = tape} {span = span}
         next = gone.goes_on.next;
         same = gone.goes_on.same;
         finds = λ not. absurd (false≢true (sym not ∙ reads-past past));
+        grows = grows;
+        once = λ is. record { looks = (gone.goes_on.once is).looks; rest = (gone.goes_on.once is).rest };
         paid = gone.goes_on.paid;
       };
       past = gone.past;
@@ -242,6 +252,8 @@ past-over {finding = finding} {tape = tape} {span = span} {last = last} {start =
       next = sym none;
       same = ap (λ (k : ℕ). record (walking_of finding tape.bytes span last start (work_of tape counts)) { left = from q k }) ends;
       finds = λ not. absurd (false≢true (sym not ∙ reads-past past));
+      grows = grows-same counts;
+      once = λ _. record { looks = (past.ended over).looks; rest = λ none. past.rest over };
       paid = record {
         finds = λ not. absurd (false≢true (sym not ∙ reads-past past));
         once = λ _. past.ended over;
@@ -364,6 +376,7 @@ module _ {A M : Type 0} (seen : A → AutomatonView) (finding : Finding) (bytes 
             (subst (λ (b : Option ℕ). IsOnwardIn a (fresh bytes) span.start span.end span.start [] o.cursor b no_counts) (sym begins.byte)
             (subst (λ (k : Cursor). IsOnwardIn a (fresh bytes) span.start span.end span.start [] k None no_counts) (sym begins.cursor)
             (at-start ordered)));
+        rest = λ over none. omega arith;
         ended = λ over. record {
           looked = omega arith;
           looks = omega arith;

@@ -2,10 +2,10 @@
 use Rattle.std.specs.Prelude.{◌≡◌, ℕ, ◌+◌, ◌-◌, ◌*◌, ◌<◌, ◌≤◌, Bool, false, true, ◌&&◌, nat_lt, length, MatchBool, List, Option, None, Some, IfSome, min}
 use Rattle.std.specs.Iterator.{YieldsFirst}
 use Rattle.ac_util.specs.declared.search.Anchored.{Anchored}
-use Rattle.ac_automaton.specs.Util.{InputView, Built, from, input_of, is_leftmost, LeftmostFirst, LeftmostLongest, MatchKind, may_skip, next_match, No, Occurrence, pick, repeats, Search, shortest_len, Span, Standard, walk_after, Yes}
+use Rattle.ac_automaton.specs.Util.{InputView, Built, Counts, from, input_of, is_leftmost, LeftmostFirst, LeftmostLongest, MatchKind, may_skip, next_match, No, Occurrence, pick, repeats, Search, shortest_len, Span, Standard, walk_after, Yes}
 use Rattle.ac_automaton.specs.declared.automaton.walk.TapedFinder.{TapedFinder}
 use Rattle.ac_automaton.specs.Finds.{Finding, Picking, picking_of, HasSearched}
-use Rattle.ac_automaton.specs.Scans.{Work, most_looks, nothing_done, search_of, work_of}
+use Rattle.ac_automaton.specs.Scans.{Grows, Work, most_looks, nothing_done, search_of, work_of}
 
 -- the matches still to come; the finds that it makes; the search that is left, and where the match before it ended, if
 -- there was one; where the whole span began; and what was done so far
@@ -141,13 +141,20 @@ pub record IsPaidOnce (walking : Walking) : Type 0 where
   pub quiet : may_skip walking.picking.wants_prefilter walking.left ≡ false → walking.work.counts.calls ≡ 0
   pub told : walking.work.counts.calls ≡ 0 → IfSome walking.last (λ e. e - walking.start ≤ walking.work.counts.reads)
 
+-- what such a walk has counted once it has given the next match: the looks are paid by the bytes read, and by one for each byte up to
+-- the end of the match before; and where there is none it has read the whole span, unless it called the prefilter
+pub record HasReadOnce (walking : Walking) (found : Option Occurrence) (counts : Counts) : Type 0 where
+  pub looks : counts.looks
+      ≤ walking.picking.most * counts.reads + (min walking.left.low walking.left.high - walking.start)
+  pub rest : found ≡ None → counts.calls ≡ 0 → walking.left.high - walking.start ≤ counts.reads
+
 -- what a walk has counted
 pub record IsPaid (walking : Walking) : Type 0 where
   pub finds : reads_past walking ≡ false → IsPaidByFinds walking
   pub once : reads_past walking ≡ true → IsPaidOnce walking
 
 -- a walk has given the first of the matches that were left, or had none, and has gone on: it is the same walk,
--- it made one find or two unless it reads on past its matches, and all that it counted is paid
+-- it made one find or two unless it reads on past its matches, it has counted on from what it had, and all of that is paid
 pub record GoesOn (walking : Walking) (found : Option Occurrence) (new_walking : Walking) : Type 0 where
   pub gives : YieldsFirst (λ (w : Walking). w.rest) walking found new_walking
   pub next : found ≡ next_match walking.picking.order walking.left walking.last
@@ -158,6 +165,8 @@ pub record GoesOn (walking : Walking) (found : Option Occurrence) (new_walking :
     work = new_walking.work;
   }
   pub finds : reads_past walking ≡ false → Finds walking new_walking.work
+  pub grows : Grows walking.work.counts new_walking.work.counts
+  pub once : reads_past walking ≡ true → HasReadOnce walking found new_walking.work.counts
   pub paid : IsPaid new_walking
 
 -- a walk by finds as its iterator keeps it: it has gone as far as the low end of what is left, and under Standard it has

@@ -269,6 +269,7 @@ pub record HasGiven (a : AutomatonView) (chains : List (List ChainMatch)) (q : S
     (rest : Option ChainRest) (cursor : Cursor) (byte : Option ℕ) (work : Work) : Type 0 where
   pub answer : found ≡ pick a.built.kind q
   pub place : work.place ≤ q.high
+  pub looks : work.counts.looks ≤ a.most * work.counts.reads + (q.low - start)
   pub goes : MatchOption found
       (IsCounted a.most (may_skip a.wants_prefilter q) start q.high 0 (q.low - start) work.counts)
       (λ m. IsRestBefore chains m.end rest
@@ -393,6 +394,7 @@ pub record IsReadingPast {A M : Type 0} (seen : A → AutomatonView) (o : Onward
   pub onward : span.start ≤ span.end
       → IsOnwardIn (seen o.core.automaton.now) tape span.start span.end start
       (pending (seen o.core.automaton.now).built o.core.commits.now.chains o.rest) o.cursor o.byte counts
+  pub rest : span.end < span.start → counts.calls ≡ 0 → span.end - start ≤ counts.reads
   pub ended : span.end < span.start → IsPaidOnce (walking_of finding tape.bytes span last start (work_of tape counts))
 
 -- a walk as its iterator keeps it: one by finds is under way, and one that reads on past its matches stands somewhere

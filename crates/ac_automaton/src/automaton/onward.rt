@@ -8,6 +8,7 @@ ghost use Rattle.ac_automaton.specs.Util.{No, pattern_of, usize_max};
 ghost use Rattle.ac_automaton.specs.Automata.{IsState};
 ghost use Rattle.ac_automaton.specs.Commits.{AreCommits, reads_on};
 ghost use Rattle.ac_automaton.specs.Finds.{finding_of, place_of};
+ghost use Rattle.ac_automaton.specs.Scans.{Grows};
 ghost use Rattle.ac_automaton.specs.Onward.{BeginsPast, GivesFrom, GivesNext, GivesOf, GoesOnward, IsAtStart, IsLawful, KeepsOnward, MayFindOnly, MayGive, MayGoOnward, MayReadAlive, MayReadOn, MayReadUpTo, MayTake, MayTakeFrom, ReadsAlive, ReadsFurther, ReadsOn, ReadsToStart, ReadsUpTo, SkipsToFirst, SkipsToOnly, TakesKnown, TakesNext, TriesByte};
 
 use super::Automaton;
@@ -107,6 +108,7 @@ impl<'a, A: Automaton> Onward<'a, A> {
         looks: &mut Looks,
     ) -> Option<Match>
         requires may { MayGoOnward A.seen self.old span tape.old looks.old }
+        ensures grows { Grows looks.old looks.new }
         ensures same { KeepsOnward self.old self.new }
         ensures bytes { tape.new.bytes ≡ tape.old.bytes }
         ensures gives { GoesOnward A.seen self.old span tape.old looks.old result self.new tape.new looks.new }
@@ -143,6 +145,7 @@ impl<'a, A: Automaton> Onward<'a, A> {
         requires lawful { IsLawful A.seen self.old }
         requires needle { SkipsToOnly (A.seen self.old.core.automaton.now) needle.now }
         requires may { MayReadOn (A.seen self.old.core.automaton.now) tape.old end self.old.cursor self.old.byte looks.old }
+        ensures grows { Grows looks.old looks.new }
         ensures same { KeepsOnward self.old self.new }
         ensures bytes { tape.new.bytes ≡ tape.old.bytes }
         ensures gives { GivesFrom A.seen self.old tape.old end looks.old result self.new tape.new looks.new }
@@ -158,6 +161,7 @@ impl<'a, A: Automaton> Onward<'a, A> {
     fn read_to_start(&mut self, end: usize, tape: &mut Tape<'_>, looks: &mut Looks) -> bool
         requires past { self.old.core.stops ≡ false }
         requires may { MayReadOn (A.seen self.old.core.automaton.now) tape.old end self.old.cursor self.old.byte looks.old }
+        ensures grows { Grows looks.old looks.new }
         ensures same { KeepsOnward self.old self.new }
         ensures rest { self.new.rest ≡ self.old.rest }
         ensures reads { ReadsToStart A.seen self.old tape.old end looks.old result self.new tape.new looks.new }
@@ -189,6 +193,7 @@ impl<'a, A: Automaton> Onward<'a, A> {
     ) -> Option<Match>
         requires finds { MayFindOnly A.seen self.old end needle.now }
         requires may { MayReadOn (A.seen self.old.core.automaton.now) tape.now end self.old.cursor self.old.byte looks.old }
+        ensures grows { Grows looks.old looks.new }
         ensures same { KeepsOnward self.old self.new }
         ensures gives { GivesFrom A.seen self.old tape.now end looks.old result self.new tape.now looks.new }
     {
@@ -208,6 +213,7 @@ impl<'a, A: Automaton> Onward<'a, A> {
         requires past { self.old.core.stops ≡ false }
         requires skips { IfSome self.old.first (λ f. SkipsToFirst (A.seen self.old.core.automaton.now) (first_bytes_of f)) }
         requires may { MayReadOn (A.seen self.old.core.automaton.now) tape.old end self.old.cursor self.old.byte looks.old }
+        ensures grows { Grows looks.old looks.new }
         ensures same { KeepsOnward self.old self.new }
         ensures rest { self.new.rest ≡ self.old.rest }
         ensures reads { ReadsOn (A.seen self.old.core.automaton.now) tape.old end self.old.cursor self.old.byte looks.old
@@ -226,6 +232,7 @@ impl<'a, A: Automaton> Onward<'a, A> {
         requires on { reads_on (A.seen self.old.core.automaton.now).built ≡ true }
         requires state { IsState ((A.seen self.old.core.automaton.now).stands No) self.old.cursor.state }
         requires small { IfSome self.old.byte (λ b. self.old.cursor.at < usize_max) }
+        ensures grows { Grows looks.old looks.new }
         ensures same { self.new ≡ record self.old { cursor = self.new.cursor; byte = self.new.byte } }
         ensures empty { result ≡ true → self.new.byte ≡ None }
         ensures tries { TriesByte (A.seen self.old.core.automaton.now) self.old.cursor self.old.byte looks.old result
@@ -253,6 +260,7 @@ impl<'a, A: Automaton> Onward<'a, A> {
         requires past { self.old.core.stops ≡ false }
         requires skips { IfSome self.old.first (λ f. SkipsToFirst (A.seen self.old.core.automaton.now) (first_bytes_of f)) }
         requires may { MayReadUpTo (A.seen self.old.core.automaton.now) tape.old end self.old.cursor looks.old }
+        ensures grows { Grows looks.old looks.new }
         ensures same { self.new ≡ record self.old { cursor = self.new.cursor; budget = self.new.budget } }
         ensures reads { ReadsUpTo (A.seen self.old.core.automaton.now) tape.old end self.old.cursor looks.old
             self.new.cursor result tape.new looks.new }
@@ -275,6 +283,7 @@ impl<'a, A: Automaton> Onward<'a, A> {
         requires past { self.old.core.stops ≡ false }
         requires skips { SkipsToFirst (A.seen self.old.core.automaton.now) (first_bytes_of first) }
         requires may { MayReadUpTo (A.seen self.old.core.automaton.now) tape.old end self.old.cursor looks.old }
+        ensures grows { Grows looks.old looks.new }
         ensures same { self.new ≡ record self.old { cursor = self.new.cursor; budget = self.new.budget } }
         ensures reads { ReadsUpTo (A.seen self.old.core.automaton.now) tape.old end self.old.cursor looks.old
             self.new.cursor result tape.new looks.new }
@@ -307,6 +316,7 @@ impl<'a, A: Automaton> Onward<'a, A> {
         requires past { self.old.core.stops ≡ false }
         requires may { MayReadUpTo (A.seen self.old.core.automaton.now) tape.old end self.old.cursor looks.old }
         requires before { self.old.cursor.at < end }
+        ensures grows { Grows looks.old looks.new }
         ensures same { self.new ≡ record self.old { cursor = self.new.cursor; budget = self.new.budget } }
         ensures reads { ReadsFurther (A.seen self.old.core.automaton.now) tape.old end self.old.cursor looks.old
             self.new.cursor result tape.new looks.new }
@@ -332,6 +342,7 @@ impl<'a, A: Automaton> Onward<'a, A> {
         requires may { MayReadUpTo (A.seen self.old.core.automaton.now) tape.old end self.old.cursor looks.old }
         requires before { self.old.cursor.at < end }
         requires at_start { IsAtStart (A.seen self.old.core.automaton.now) self.old.cursor.state }
+        ensures grows { Grows looks.old looks.new }
         ensures same { self.new ≡ record self.old { cursor = self.new.cursor; budget = self.new.budget } }
         ensures reads { ReadsFurther (A.seen self.old.core.automaton.now) tape.old end self.old.cursor looks.old
             self.new.cursor result tape.new looks.new }
@@ -417,6 +428,7 @@ impl<'a, A: Automaton> Core<'a, A> {
         looks: &mut Looks,
     ) -> Option<u8>
         requires may { MayReadAlive (A.seen self.now.automaton.now) tape.old to cursor.old }
+        ensures grows { Grows looks.old looks.new }
         ensures reads { self.now.stops ≡ false
             → ReadsUpTo (A.seen self.now.automaton.now) tape.old to cursor.old looks.old cursor.new result tape.new looks.new }
         ensures comes { ReadsAlive (A.seen self.now.automaton.now) self.now.stops tape.old.bytes to cursor.old cursor.new result }

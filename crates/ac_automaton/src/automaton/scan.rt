@@ -8,7 +8,7 @@ ghost use Rattle.ac_automaton.specs.Automata.{IsState};
 ghost use Rattle.ac_automaton.specs.Finds.{FindsAt, StandsIn};
 ghost use Rattle.ac_automaton.specs.Overlaps.{is_due};
 ghost use Rattle.ac_automaton.specs.Onward.{ReadsAlive, ReadsUpTo};
-ghost use Rattle.ac_automaton.specs.Scans.{Advances, Follows, MayAdvance, MayRead, ReadsAhead, Stops, TellsOver, TellsStop, byte_of, scanner};
+ghost use Rattle.ac_automaton.specs.Scans.{Advances, Follows, Grows, MayAdvance, MayRead, ReadsAhead, Stops, TellsOver, TellsStop, byte_of, scanner};
 
 use super::Automaton;
 use ac_util::looks::{Looks, Tape};
@@ -78,6 +78,7 @@ impl<'a, A: Automaton> Scanner<'a, A> {
         looks: &mut Looks,
     ) -> Option<Dead>
         requires may { MayRead (scanner A.seen self.now) tape.old cursor.old }
+        ensures grows { Grows looks.old looks.new }
         ensures advances { stops ≡ true
             → ReadsAhead (scanner A.seen self.now) cursor.old tape.old looks.old result cursor.new tape.new looks.new }
         ensures reads { self.now.anchored ≡ No → stops ≡ false → ReadsUpTo (A.seen self.now.automaton.now) tape.old

@@ -1,4 +1,4 @@
-use Rattle.std.proofs.Common.{None, Option, Some, sym, subst}
+use Rattle.std.proofs.Common.{◌≡◌, ◌⊎◌, ℕ, None, Option, Some, sym, subst}
 use Rattle.ac_automaton.specs.Util.{Occurrence}
 use Rattle.ac_automaton.specs.Onward.{GivesAt, GivesOf, HasGiven, search_in}
 use Rattle.ac_automaton.specs.declared.automaton.onward.Given.{Given}
@@ -57,4 +57,5 @@ returns-clause-gives g c = λ bytes low end start work inside stopped.
     (sym c.match_ending-found.ensures)
     (given-some (g.A.Automaton.seen c.args.self.now.core.automaton.now) c.requires.may.lawful.on c.args.self.now.core.commits.now.chains
     bytes low end start inside stopped c.in-Some.given (past g (goal.at.returns-clause-gives g c).Start (Some c.in-Some.given) c.in-Some.ensures stopped.node stopped.stands.there)
+    (subst (λ (n : ℕ). (n ≡ 1) ⊎ (n ≡ 2)) (sym (g.met.A.Automaton.allows c.args.self.now.core.automaton.now)) g.met.A.Automaton.one_or_two)
     c.chain_rest-self.result c.chain_rest-self.ensures)

@@ -1,4 +1,4 @@
-use Rattle.ac_automaton.proofs.OnwardGoes.{only-found, only-given, only-may}
+use Rattle.ac_automaton.proofs.OnwardGoes.{only-found, only-given, only-may, only-on}
 use Rattle.ac_automaton.proofs.automaton.onward.Onward.give_needle.Goals as goal
 
 -- where it has come to its start, as the prefilter finds it
@@ -15,3 +15,6 @@ give-requires g c = record {
 pub returns-clause-gives : goal.returns-clause-gives
 returns-clause-gives g c =
     only-given c.read_to_start.ensures.same c.if-read_to_start.ensures.reads c.requires.may.inside c.give.new.self c.give.ensures.gives
+
+pub find_needle-requires-clause-may : goal.find_needle-requires-clause-may
+find_needle-requires-clause-may g c = only-on c.read_to_start.ensures.same c.if-read_to_start.ensures.reads c.requires.may

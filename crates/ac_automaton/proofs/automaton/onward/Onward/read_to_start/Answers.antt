@@ -2,8 +2,9 @@ use Rattle.std.proofs.Common.{◌∙◌, Some, subst, sym}
 use Rattle.std.proofs.lemmas.Bool.{false≢true}
 use Rattle.ac_automaton.specs.Util.{No, Node}
 use Rattle.ac_automaton.specs.Prelude.{AutomatonView}
-use Rattle.ac_automaton.specs.Onward.{ReadsFurther}
-use Rattle.ac_automaton.proofs.OnwardReads.{seen-same, stops-further, stops-there}
+use Rattle.ac_automaton.specs.Onward.{MayReadUpTo, ReadsFurther}
+use Rattle.ac_automaton.proofs.OnwardReads.{may-further, seen-same, stops-further, stops-there}
+use Rattle.ac_automaton.proofs.ReadOn.{grows-trans}
 use Rattle.ac_automaton.proofs.automaton.onward.Onward.read_to_start.Goals as goal
 
 -- where it has come to it stands for some node
@@ -42,3 +43,19 @@ returns-clause-reads g c =
       at_start = λ e. absurd (false≢true e);
       reads = reads.stops;
     }
+
+pub read_rest-byte-requires-clause-may : goal.read_rest-byte-requires-clause-may
+read_rest-byte-requires-clause-may g c =
+    subst (λ (a : AutomatonView). MayReadUpTo a c.loop-self.tape c.args.end c.loop-self.self.cursor c.loop-self.looks)
+    (sym (seen-same g.A.Automaton.seen c.loop-self.self _ c.loop-self.invariant.same))
+    (may-further c.requires.may.inside c.loop-self.invariant.comes c.requires.may)
+
+-- what it has counted has grown
+pub returns-then-is_to_skip-clause-grows : goal.returns-then-is_to_skip-clause-grows
+returns-then-is_to_skip-clause-grows g c = c.loop-self.invariant.grows
+
+pub returns-then-is_some-clause-grows : goal.returns-then-is_some-clause-grows
+returns-then-is_some-clause-grows g c = grows-trans c.loop-self.invariant.grows c.read_rest-byte.ensures.grows
+
+pub returns-clause-grows : goal.returns-clause-grows
+returns-clause-grows g c = c.loop-self.invariant.grows

@@ -2,14 +2,14 @@ use Rattle.std.proofs.Common.{[], ◌+◌, ◌≡◌, ◌≢◌, ◌⊎◌, ℕ,
 use Rattle.std.proofs.lemmas.Bool.{false≢true}
 use Rattle.ac_util.specs.declared.search.Anchored.{Anchored}
 use Rattle.ac_automaton.specs.Util.{more_looks, No, Node, Taped}
-use Rattle.ac_automaton.specs.Prelude.{Advances, AutomatonView, IsAlive, looks_of, PassesNoMatch, Scan, ScanText, scan_of, scanner, search_of, work_of}
+use Rattle.ac_automaton.specs.Prelude.{Advances, AutomatonView, Grows, IsAlive, looks_of, PassesNoMatch, Scan, ScanText, scan_of, scanner, search_of, work_of}
 use Rattle.ac_automaton.specs.Automata.{StepsTo}
 use Rattle.ac_automaton.specs.Onward.{TakesByte}
 use Rattle.ac_automaton.specs.Scans.{TellsStop}
 use Rattle.ac_automaton.proofs.AliveSteps.{alive-end, alive-match, alive-on, alive-start, alive-stops}
-use Rattle.ac_automaton.proofs.OnwardSteps.{dies-by, onward-next, stops-next, takes-read, to-try}
+use Rattle.ac_automaton.proofs.OnwardSteps.{dies-by, look-each, onward-next, stops-next, takes-read, to-try}
 use Rattle.ac_automaton.proofs.ReadAhead.{along-next, along-passed, along-passes, along-start}
-use Rattle.ac_automaton.proofs.ReadOn.{passes-byte}
+use Rattle.ac_automaton.proofs.ReadOn.{grows-byte, grows-same, grows-trans, passes-byte}
 use Rattle.ac_automaton.proofs.automaton.scan.Scanner.read.Given.{Over}
 use Rattle.ac_automaton.proofs.automaton.scan.Scanner.read.Goals.{After-next_state-next}
 use Rattle.ac_automaton.proofs.automaton.scan.Scanner.read.Goals as goal
@@ -17,6 +17,7 @@ use Rattle.ac_automaton.proofs.automaton.scan.Scanner.read.Goals as goal
 pub loop-at-init : goal.loop-at-init
 loop-at-init g c = record {
   bytes = refl;
+  grows = grows-same _;
   onward = omega arith;
   within = λ up. up;
   comes = λ free. record { bytes = refl; onward = omega arith; along = λ low end start up inside onward. onward };
@@ -67,6 +68,14 @@ module _ (g : Over) (c : After-next_state-next g) where
 
   state-next : (u : Node) × s.stands c.next_state-next.result u
   state-next = let state = c.loop-at.invariant.state in (_, c.next_state-next.ensures.steps state.0 state.1)
+
+  -- what is counted has grown by it
+  grows-now : Grows c.args.looks.now c.next_state-next.new.looks
+  grows-now =
+      let state = c.loop-at.invariant.state in
+      grows-trans c.loop-at.invariant.grows
+      (grows-byte c.read-byte.ensures.counted (c.next_state-next.ensures.looks state.0 state.1)
+      (look-each a.most a.built c.args.self.now.anchored state.0 c.read-byte.result))
 
   -- where it isn't anchored
   module _ (free : c.args.self.now.anchored ≡ No) where
@@ -171,6 +180,7 @@ loop-at-preserved g c =
     let d = (goal.at.loop-at-preserved g c).After-next_state-next in
     record {
       bytes = bytes-now g d;
+      grows = grows-now g d;
       onward = (let o = c.loop-at.invariant.onward in omega arith);
       within = λ up. (let before = c.loop-at-test.true in omega arith);
       comes = λ free. record {
@@ -223,3 +233,12 @@ returns-clause-advances g c = λ first before.
       within = c.loop-at.invariant.within (omega arith);
       passes = λ t same alive. along-passed (c.loop-at.invariant.along first t same alive);
     }, λ more u there. absurd (omega arith))
+
+pub returns-then-is_dead-clause-grows : goal.returns-then-is_dead-clause-grows
+returns-then-is_dead-clause-grows g c = grows-now g (goal.at.returns-then-is_dead-clause-grows g c).After-next_state-next
+
+pub returns-then-is_to_stop-clause-grows : goal.returns-then-is_to_stop-clause-grows
+returns-then-is_to_stop-clause-grows g c = grows-now g (goal.at.returns-then-is_to_stop-clause-grows g c).After-next_state-next
+
+pub returns-clause-grows : goal.returns-clause-grows
+returns-clause-grows g c = c.loop-at.invariant.grows

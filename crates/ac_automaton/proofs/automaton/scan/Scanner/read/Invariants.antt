@@ -1,7 +1,7 @@
 use Rattle.std.proofs.Common.{◌≡◌, ◌-◌, ◌≤◌, List, ℕ, Some, true}
 use Rattle.ac_automaton.specs.Util.{No}
 use Rattle.ac_automaton.specs.Automata.{IsState}
-use Rattle.ac_automaton.specs.Prelude.{IsAlive, ScanText, scan_of, work_of}
+use Rattle.ac_automaton.specs.Prelude.{Grows, IsAlive, ScanText, scan_of, work_of}
 use Rattle.ac_automaton.proofs.AliveSteps.{IsAlongAlive}
 use Rattle.ac_automaton.proofs.OnwardSteps.{ComesUpTo}
 use Rattle.ac_automaton.proofs.ReadAhead.{IsAlong}
@@ -13,6 +13,7 @@ invariant-loop-at g l =
     let a = g.A.Automaton.seen l.self.automaton.now in
     record {
       bytes : l.tape.bytes ≡ l.fn.tape.bytes;
+      grows : Grows l.fn.looks l.looks;
       onward : l.fn.cursor.at ≤ l.at;
       within : l.fn.cursor.at ≤ l.self.span.end → l.at ≤ l.self.span.end;
       comes : l.self.anchored ≡ No

@@ -17,7 +17,7 @@ moved : (g : Over) (c : After-after-self-inside g)
 moved g c =
     fresh-goes c.self.invariant.inside c.if-self.false (kept-past c.self.invariant.kept c.in-Some.onward c.in-Some.is)
     c.open-tape.result.0 (c.open-tape.ensures.tape ∙ ap (λ (bs : List ℕ). fresh bs) (sym c.self.invariant.whole))
-    c.next-found.result c.next-found.new.self c.next-found.new.tape c.next-found.new.looks c.next-found.ensures.same
+    c.next-found.result c.next-found.new.self c.next-found.new.tape c.next-found.new.looks c.next-found.ensures.grows c.next-found.ensures.same
     c.next-found.ensures.bytes c.next-found.ensures.gives
 
 pub returns-in-Some-found : goal.returns-in-Some-found
