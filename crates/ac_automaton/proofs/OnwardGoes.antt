@@ -2,7 +2,7 @@
 use Rattle.std.proofs.Common.{◌≡◌, ◌≤◌, ℕ, true, false, List, [], length, ap, sym, ◌∙◌, subst, Option, None, Some}
 use Rattle.ac_automaton.specs.Util.{Counts, Occurrence, Span, Taped}
 use Rattle.ac_automaton.specs.Prelude.{AutomatonView, work_of}
-use Rattle.ac_automaton.specs.Onward.{GivesFrom, GivesNext, GoesOnward, HasGiven, HasStopped, IsLawful, IsOnward, IsOnwardIn, KeepsOnward, MayGive, MayGoOnward, MayReadOn, pending, ReadsOn, ReadsToStart, search_in, TakesNext}
+use Rattle.ac_automaton.specs.Onward.{GivesFrom, GivesThere, GoesOnward, HasGiven, HasStopped, IsLawful, IsOnward, IsOnwardIn, KeepsOnward, MayGive, MayGoOnward, MayReadOn, pending, ReadsOn, ReadsToStart, search_in, TakesNext}
 use Rattle.ac_automaton.specs.declared.automaton.onward.Onward.{Onward}
 
 module _ {A M : Type 0} {seen : A → AutomatonView} {old known : Onward A M} {span : Span} {tape : Taped} {counts : Counts}
@@ -71,10 +71,10 @@ module _ {A M : Type 0} {seen : A → AutomatonView} {old known : Onward A M} {s
         })
 
     -- and has gone on once it has given that
-    pub goes-given : {found : Option Occurrence} (new : Onward A M) → GivesNext seen read found new
+    pub goes-given : {found : Option Occurrence} (new : Onward A M) → GivesThere seen read found new
         → GoesOnward seen old span tape counts found new new_tape new_counts
     goes-given {found} new gives start onward =
-        subst (λ (o : Onward A M). GivesNext seen o found new) read-is gives tape.bytes span.start span.end start
+        subst (λ (o : Onward A M). GivesThere seen o found new) read-is gives tape.bytes span.start span.end start
         (work_of new_tape new_counts) may.inside (stopped start onward)
 
 -- a walk by a single pattern has read on as far as it reads, or to where its prefilter may find that
@@ -127,8 +127,8 @@ module _ {A M : Type 0} {seen : A → AutomatonView} {old read : Onward A M} {ta
         })
 
     -- and has given it
-    pub only-given : end ≤ length tape.bytes → {found : Option Occurrence} (new : Onward A M) → GivesNext seen read found new
+    pub only-given : end ≤ length tape.bytes → {found : Option Occurrence} (new : Onward A M) → GivesThere seen read found new
         → GivesFrom seen old tape end counts found new new_tape new_counts
     only-given inside {found} new gives low start onward =
-        subst (λ (o : Onward A M). GivesNext seen o found new) keeps gives tape.bytes low end start (work_of new_tape new_counts) inside
+        subst (λ (o : Onward A M). GivesThere seen o found new) keeps gives tape.bytes low end start (work_of new_tape new_counts) inside
         (reads.reads low start onward)

@@ -10,10 +10,10 @@ use Rattle.ac_automaton.specs.Util.{buffer_len, Built, from, is_leftmost, IsSett
 use Rattle.ac_util.proofs.Longer.{pick-extended}
 use Rattle.ac_util.proofs.Spans.{take_drop_take}
 use Rattle.ac_util.proofs.Walks.{next-none, walk_after-None}
-use Rattle.ac_automaton.specs.Prelude.{Ended, Failed, HasGivenSettled, Inside, IsOver, IsStreaming, most_kept, Open, Phase, plain_of, initial_stream, StandsPast, stream_from, Streaming}
+use Rattle.ac_automaton.specs.Prelude.{Ended, Failed, HasGivenSettled, Inside, HasSearchedAll, IsStreaming, most_kept, Open, Phase, plain_of, initial_stream, StandsPast, stream_from, Streaming}
 use Rattle.ac_util.proofs.Onward.{after-start}
 use Rattle.ac_automaton.specs.Onward.{pending}
-use Rattle.ac_automaton.specs.Streams.{HasGiven}
+use Rattle.ac_automaton.specs.Streams.{HasGivenFirst}
 use Rattle.ac_automaton.specs.declared.automaton.commits.ChainMatch.{ChainMatch}
 use Rattle.ac_automaton.proofs.StreamRefusals.{allowed-some}
 use Rattle.ac_automaton.proofs.StreamFirst.{picked-nothing}
@@ -91,8 +91,8 @@ most-kept built stops longest is long = grind (arith, common_steps)
 
 -- what was given in some bytes is given in more
 module _ (built : Built) (bytes more : List ℕ) (begun : ℕ) where
-  given-longer : (phase : Phase) (given : ℕ) → (phase ≡ Ended → ⊥) → HasGiven phase built bytes given begun
-      → HasGiven phase built (bytes ++ more) given begun
+  given-longer : (phase : Phase) (given : ℕ) → (phase ≡ Ended → ⊥) → HasGivenFirst phase built bytes given begun
+      → HasGivenFirst phase built (bytes ++ more) given begun
   given-longer phase given goes_on g = grind (arith, common_steps)
 
 module _ (stands : ℕ → Node → Type 0) (chains : List (List ChainMatch)) (i : Inside) (v : Streaming)
@@ -290,7 +290,7 @@ module _ (stands : ℕ → Node → Type 0) (chains : List (List ChainMatch)) (i
         let c = inv.counted in let w = inv.within in let r = inv.read in
         elim inv.back [ inl back ↦ omega arith | inr over ↦ let whole = over.whole in omega arith ]
 
-    back-read : (v.kept ≤ max i.begun (v.kept + 0 - i.reserve)) ⊎ IsOver (record i { buffer = buffer; filled = 0; at = 0 })
+    back-read : (v.kept ≤ max i.begun (v.kept + 0 - i.reserve)) ⊎ HasSearchedAll (record i { buffer = buffer; filled = 0; at = 0 })
         (record v { front = v.kept; buffer = length buffer })
     back-read =
         let place = all-read in

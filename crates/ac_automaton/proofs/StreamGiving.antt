@@ -9,7 +9,7 @@ use Rattle.ac_util.proofs.Decided.{settled-at}
 use Rattle.ac_util.proofs.Shortest.{none-empty}
 use Rattle.ac_util.proofs.Walks.{next-some, pick-Occurs, walk-ordered, walk_after-Some}
 use Rattle.ac_automaton.specs.Prelude.{Ended, Failed, GivesMatch, Inside, IsSettledIn, IsSettling, IsStreaming, Open, Phase, StandsPast, stream_from, Streaming}
-use Rattle.ac_automaton.specs.Streams.{HasGiven}
+use Rattle.ac_automaton.specs.Streams.{HasGivenFirst}
 use Rattle.ac_automaton.specs.declared.automaton.commits.ChainMatch.{ChainMatch}
 use Rattle.ac_automaton.specs.declared.automaton.onward.ChainRest.{ChainRest}
 use Rattle.ac_automaton.proofs.ListLoop.{get-beyond}
@@ -167,7 +167,7 @@ module _ {stands : ℕ → Node → Type 0} {chains : List (List ChainMatch)} {i
       }
 
   -- it has then given one more
-  given-then : HasGiven v.phase v.built v.bytes (v.given + 1) m.end
+  given-then : HasGivenFirst v.phase v.built v.bytes (v.given + 1) m.end
   given-then = record {
     matches = inv.given.matches ++ m ∷ [];
     count = length-append inv.given.matches (m ∷ []) ∙ ap (λ (n : ℕ). n + 1) inv.given.count;

@@ -312,8 +312,8 @@ module _ {A M : Type 0} (seen : A → AutomatonView) (o : Onward A M) where
     pub stopped : HasStopped view (search_in bytes low end) start o.cursor o.byte work
 
   -- in each search where it had read on, it has given that
-  abbrev pub GivesNext : Option Occurrence → Onward A M → Type 0
-  GivesNext found new =
+  abbrev pub GivesThere : Option Occurrence → Onward A M → Type 0
+  GivesThere found new =
       (bytes : List ℕ) (low end start : ℕ) (work : Work) → end ≤ length bytes
       → HasStopped view (search_in bytes low end) start o.cursor o.byte work
       → HasGiven view chains (search_in bytes low end) start found new.rest new.cursor new.byte work

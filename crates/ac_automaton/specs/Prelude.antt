@@ -11,7 +11,7 @@ pub use Rattle.ac_automaton.specs.Tries.{AreNodes, ForNode, HasOwn, IsFailureOf,
 unfoldable pub use Rattle.ac_automaton.specs.Tries.{transition_bytes_of}
 unfoldable pub use Rattle.ac_automaton.specs.Sorted.{head_of}
 pub use Rattle.ac_automaton.specs.Sorted.{AreListed, byte_at, compared, compared_by_bytes, HasHead, head_len, is_prefix, IsHead, IsOrder, key_at, Keyed, keyed, keyed_one, numbers, Precedes, Sorted}
-pub use Rattle.ac_automaton.specs.Streams.{EndsNow, FailsToFill, FillsMore, GivesEarly, GivesLast, HasGivenLast, GivesMatch, GivesNone, GivesRead, GoesOnBy, HasGivenSettled, Inside, IsOver, IsSearching, IsSettledIn, IsSettling, IsStreaming, KeepsGiven, kept_from, kept_len, matches_so_far, MeetsEnd, most_kept, initial_stream, StandsPast, stream_from, Streaming, StreamsOn}
+pub use Rattle.ac_automaton.specs.Streams.{EndsNow, FailsToFill, FillsMore, GivesEarly, GivesLast, HasGivenLast, GivesMatch, GivesNone, GivesRead, GoesOnBy, HasGivenSettled, Inside, HasSearchedAll, IsSearching, IsSettledIn, IsSettling, IsStreaming, KeepsGiven, kept_from, kept_len, matches_so_far, MeetsEnd, most_kept, initial_stream, StandsPast, stream_from, Streaming, StreamsOn}
 pub use Rattle.ac_automaton.specs.declared.automaton.listing.MatchRest.{MatchRest}
 pub use Rattle.ac_automaton.specs.declared.automaton.overlap.OverlappingState.{OverlappingState}
 pub use Rattle.ac_automaton.specs.declared.automaton.listing.Reached.{Reached}

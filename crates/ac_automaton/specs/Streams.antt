@@ -220,7 +220,7 @@ stream_from built bytes begun = search_of built No bytes begun (length bytes)
 
 -- so many matches were given, the last of which ended at an offset: whichever bytes follow, or none once the end was met, the
 -- walk over all of them is these matches, and then what the walk gives from there on
-pub record HasGiven (phase : Phase) (built : Built) (bytes : List ℕ) (given begun : ℕ) : Type 0 where
+pub record HasGivenFirst (phase : Phase) (built : Built) (bytes : List ℕ) (given begun : ℕ) : Type 0 where
   pub matches : List Occurrence
   pub count : length matches ≡ given
   pub end : last_end matches ≡ begun
@@ -250,7 +250,7 @@ pub record StandsPast (stands : ℕ → Node → Type 0) (chains : List (List Ch
   pub first : v.built.kind ≡ Standard → HasPassedNone i v
 
 -- the end was met, all was searched, and no match is left
-pub record IsOver (i : Inside) (v : Streaming) : Type 0 where
+pub record HasSearchedAll (i : Inside) (v : Streaming) : Type 0 where
   pub ended : v.phase ≡ Ended
   pub whole : i.at ≡ i.filled
   pub none : pick v.built.kind (stream_from v.built v.bytes i.begun) ≡ None
@@ -272,14 +272,14 @@ pub record IsStreaming (stands : ℕ → Node → Type 0) (chains : List (List C
   pub within : i.at ≤ i.filled
   pub read : i.begun ≤ v.front + i.at
   pub past : StandsPast stands chains i v
-  pub given : HasGiven v.phase v.built v.bytes v.given i.begun
+  pub given : HasGivenFirst v.phase v.built v.bytes v.given i.begun
   pub all : v.phase ≡ Ended → GivesEarly v
   pub failed : v.phase ≡ Failed → HasGivenSettled v v
   pub few : v.given ≤ i.begun
   pub in_buffer : v.front ≤ v.kept
   pub after : i.begun ≤ v.kept
   pub kept_within : v.kept ≤ length v.bytes
-  pub back : (v.kept ≤ max i.begun (v.front + i.at - i.reserve)) ⊎ IsOver i v
+  pub back : (v.kept ≤ max i.begun (v.front + i.at - i.reserve)) ⊎ HasSearchedAll i v
 
 -- and the commits are the automaton's
 pub record IsSearching (a : AutomatonView) (c : CommitsView) (i : Inside) (v : Streaming) : Type 0 where

@@ -9,7 +9,7 @@ ghost use Rattle.ac_automaton.specs.Automata.{IsState};
 ghost use Rattle.ac_automaton.specs.Commits.{AreCommits, reads_on};
 ghost use Rattle.ac_automaton.specs.Finds.{finding_of, place_of};
 ghost use Rattle.ac_automaton.specs.Scans.{Grows};
-ghost use Rattle.ac_automaton.specs.Onward.{BeginsPast, GivesFrom, GivesNext, GivesOf, GoesOnward, IsAtStart, IsLawful, KeepsOnward, MayFindOnly, MayGive, MayGoOnward, MayReadAlive, MayReadOn, MayReadUpTo, MayTake, MayTakeFrom, ReadsAlive, ReadsFurther, ReadsOn, ReadsToStart, ReadsUpTo, SkipsToFirst, SkipsToOnly, TakesKnown, TakesNext, TriesByte};
+ghost use Rattle.ac_automaton.specs.Onward.{BeginsPast, GivesFrom, GivesThere, GivesOf, GoesOnward, IsAtStart, IsLawful, KeepsOnward, MayFindOnly, MayGive, MayGoOnward, MayReadAlive, MayReadOn, MayReadUpTo, MayTake, MayTakeFrom, ReadsAlive, ReadsFurther, ReadsOn, ReadsToStart, ReadsUpTo, SkipsToFirst, SkipsToOnly, TakesKnown, TakesNext, TriesByte};
 
 use super::Automaton;
 use super::commits::{Chains, Commits};
@@ -371,7 +371,7 @@ impl<'a, A: Automaton> Onward<'a, A> {
     fn give(&mut self) -> Option<Match>
         requires may { MayGive A.seen self.old }
         ensures same { KeepsOnward self.old self.new }
-        ensures gives { GivesNext A.seen self.old result self.new }
+        ensures gives { GivesThere A.seen self.old result self.new }
     {
         let Some(given) = self.core.given_at(self.cursor.state) else {
             return None;
