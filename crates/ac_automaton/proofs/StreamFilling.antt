@@ -155,14 +155,14 @@ module _ (stands : ℕ → Node → Type 0) (chains : List (List ChainMatch)) (i
 
     -- the stream was closed, and what stands after the bytes that are left was cleared
     module _ (settled : HasGivenSettled v v) (clear : All (λ b. b ≡ 0) (drop i.filled buffer)) (phase : Phase) (closed : phase ≢ Open)
-        where
-      pub streams-closed : IsStreaming stands chains (record i { buffer = buffer }) (record v { phase = phase; buffer = length buffer })
-      streams-closed = by phase closed
-        where
-          by : (p : Phase) → p ≢ Open → IsStreaming stands chains (record i { buffer = buffer }) (record v { phase = p; buffer = length buffer })
-          by Open closed = absurd (closed refl)
-          by Ended closed = search (rules, past-then Ended (length buffer), back-open)
-          by Failed closed = search (rules, past-then Failed (length buffer), back-open)
+      where
+        pub streams-closed : IsStreaming stands chains (record i { buffer = buffer }) (record v { phase = phase; buffer = length buffer })
+        streams-closed = by phase closed
+          where
+            by : (p : Phase) → p ≢ Open → IsStreaming stands chains (record i { buffer = buffer }) (record v { phase = p; buffer = length buffer })
+            by Open closed = absurd (closed refl)
+            by Ended closed = search (rules, past-then Ended (length buffer), back-open)
+            by Failed closed = search (rules, past-then Failed (length buffer), back-open)
 
     -- and some of that is bytes more
     module _ (n : ℕ) (more : List ℕ) (reads : more ≡ take n (drop i.filled buffer)) (room : n ≤ length (drop i.filled buffer))

@@ -70,8 +70,10 @@ module _ (a : AutomatonView) {bytes : List ℕ} {given front kept : ℕ} {phase 
             ⊎ ((at a inv on < (q a inv more).high)
             × (step a.built.kind (plain_of a.built) No (Some (u a inv on)) (byte_at (q a inv more) (at a inv on)) ≡ None))
         by (Some b) over stopped =
-            inr ((let o = (of-search a inv on more).within in let before = stopped.0 in omega arith),
-            dead-at more b stopped.0 stopped.1 stopped.2)
+            inr (
+              (let o = (of-search a inv on more).within in let before = stopped.0 in omega arith),
+              dead-at more b stopped.0 stopped.1 stopped.2,
+            )
         by None (inl came) read = absurd (came refl)
         by None (inr ended) read =
             let r = read-all read in

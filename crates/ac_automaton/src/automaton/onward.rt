@@ -130,7 +130,11 @@ impl<'a, A: Automaton> Onward<'a, A> {
         ensures same { self.new ≡ record self.old { rest = self.new.rest } }
         ensures takes { TakesNext A.seen self.old result self.new.rest }
     {
-        take_next(self.core.automaton, self.core.commits.chains(), &mut self.rest)
+        take_next(
+            self.core.automaton,
+            self.core.commits.chains(),
+            &mut self.rest,
+        )
     }
 
     /// Gives the next match of the only pattern, and goes on after it.
@@ -242,7 +246,10 @@ impl<'a, A: Automaton> Onward<'a, A> {
             return true;
         };
         let state = self.cursor.state;
-        let next = self.core.automaton.next_state(Anchored::No, state, byte, looks);
+        let next = self
+            .core
+            .automaton
+            .next_state(Anchored::No, state, byte, looks);
         if self.core.automaton.is_dead(next) {
             return false;
         }
@@ -356,7 +363,10 @@ impl<'a, A: Automaton> Onward<'a, A> {
         self.cursor.at = next;
         let byte = tape.read(next, looks);
         let state = self.cursor.state;
-        let led = self.core.automaton.next_state(Anchored::No, state, byte, looks);
+        let led = self
+            .core
+            .automaton
+            .next_state(Anchored::No, state, byte, looks);
         if self.core.automaton.is_dead(led) {
             return Some(byte);
         }

@@ -90,9 +90,7 @@ impl<'a, A: Automaton> Scanner<'a, A> {
         let end = self.span.end;
         while at < end {
             let byte = tape.read(at, looks);
-            let next = self
-                .automaton
-                .next_state(self.anchored, state, byte, looks);
+            let next = self.automaton.next_state(self.anchored, state, byte, looks);
             if self.is_to_stop(stops, next) {
                 let past = Cursor {
                     state: next,

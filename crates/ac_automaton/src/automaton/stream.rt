@@ -184,7 +184,9 @@ impl<'a, A: Automaton, Z: Allocator> StreamFinder<'a, A, Z> {
             state: self.state,
             at: self.at,
         };
-        let byte = self.core.read_through(&self.buffer[..self.filled], &mut here);
+        let byte = self
+            .core
+            .read_through(&self.buffer[..self.filled], &mut here);
         self.at = here.at;
         let read = self.front + here.at;
         let Some(given) = self.core.given_settled(here.state, byte, self.phase) else {

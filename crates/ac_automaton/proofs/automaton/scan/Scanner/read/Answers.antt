@@ -149,9 +149,10 @@ returns-then-is_dead-clause-comes g c = λ free v there.
 
 pub returns-then-is_dead-clause-advances : goal.returns-then-is_dead-clause-advances
 returns-then-is_dead-clause-advances g c = λ first before.
-    let d = (goal.at.returns-then-is_dead-clause-advances g c).After-next_state-next in
-    (advances-now g d first,
-    λ more u there. inl (dies-on u there))
+    let d = (goal.at.returns-then-is_dead-clause-advances g c).After-next_state-next in (
+      advances-now g d first,
+      λ more u there. inl (dies-on u there),
+    )
   where
     dies-on : (u : Node) → (g.A.Automaton.seen c.args.self.now.automaton.now).stands c.args.self.now.anchored c.next_state-next.result u → u ≡ None
     dies-on u there = (c.is_dead.ensures c.args.self.now.anchored u there).0 c.if-is_dead.true
@@ -172,7 +173,7 @@ returns-then-is_to_stop-clause-advances g c = λ first before.
   where
     stopped : (u : Node) → (g.A.Automaton.seen c.args.self.now.automaton.now).stands c.args.self.now.anchored c.next_state-next.result u
         → (u ≡ None) ⊎ ((g.A.Automaton.seen c.args.self.now.automaton.now).listed c.next_state-next.result ≢ [])
-    stopped u there = elim ((c.is_to_stop.ensures u there).0 c.if-is_to_stop.true) [ | inl dead ↦ inl dead | inr first ↦ inr first.1 ]
+    stopped u there = elim ((c.is_to_stop.ensures u there).0 c.if-is_to_stop.true) [ inl dead ↦ inl dead | inr first ↦ inr first.1 ]
 
 -- or goes on
 pub loop-at-preserved : goal.loop-at-preserved
@@ -204,7 +205,7 @@ loop-at-preserved g c =
           along-next (c.loop-at.invariant.along first t same alive) passes
           (g.met.A.Automaton.lists c.args.self.now.automaton.now c.args.self.now.anchored c.next_state-next.result _ passes.is_at.there)
           (λ stop. false≢true (sym c.if-is_to_stop.false
-          ∙ (c.is_to_stop.ensures _ passes.is_at.there).1 (elim stop [ | inl dead ↦ inl dead | inr some ↦ inr (first, some) ])));
+          ∙ (c.is_to_stop.ensures _ passes.is_at.there).1 (elim stop [ inl dead ↦ inl dead | inr some ↦ inr (first, some) ])));
       state = state-next g d;
       unread = (let p = ap (λ (t : Taped). t.place) c.read-byte.ensures.place in omega arith);
     }
@@ -226,13 +227,15 @@ returns-clause-comes g c = λ free v there.
 
 pub returns-clause-advances : goal.returns-clause-advances
 returns-clause-advances g c = λ first before.
-    let over = c.loop-at-test.false in
-    (record {
-      bytes = c.loop-at.invariant.bytes;
-      moved = omega arith;
-      within = c.loop-at.invariant.within (omega arith);
-      passes = λ t same alive. along-passed (c.loop-at.invariant.along first t same alive);
-    }, λ more u there. absurd (omega arith))
+    let over = c.loop-at-test.false in (
+      record {
+        bytes = c.loop-at.invariant.bytes;
+        moved = omega arith;
+        within = c.loop-at.invariant.within (omega arith);
+        passes = λ t same alive. along-passed (c.loop-at.invariant.along first t same alive);
+      },
+      λ more u there. absurd (omega arith),
+    )
 
 pub returns-then-is_dead-clause-grows : goal.returns-then-is_dead-clause-grows
 returns-then-is_dead-clause-grows g c = grows-now g (goal.at.returns-then-is_dead-clause-grows g c).After-next_state-next
