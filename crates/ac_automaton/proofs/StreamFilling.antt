@@ -299,9 +299,9 @@ module _ (stands : ℕ → Node → Type 0) (chains : List (List ChainMatch)) (i
           | inr over ↦ inr (record { ended = ended; whole = refl; none = over.none })
         ]
 
-    pub streams-forgotten : IsStreaming stands chains (record i { buffer = buffer; filled = 0; at = 0 })
+    pub streams-cleared : IsStreaming stands chains (record i { buffer = buffer; filled = 0; at = 0 })
         (record v { front = v.kept; buffer = length buffer })
-    streams-forgotten =
+    streams-cleared =
         let place = all-read in let c = inv.counted in
         record {
           allowed = inv.allowed;

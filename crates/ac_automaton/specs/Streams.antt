@@ -182,7 +182,7 @@ StreamsOn ends old result new reader new_reader =
 -- there is no match any more, and no byte is left in the buffer that isn't kept
 pub record HasGivenLast (old new : Streaming) : Type 0 where
   pub given : HasGivenSettled old (record new { front = old.front })
-  pub forgets : new.front ≡ new.kept
+  pub cleared : new.front ≡ new.kept
 
 -- once the end was met there is nothing to read: the next match was given, or there is none any more
 abbrev pub GivesLast : Streaming → Option (Result Occurrence StreamError) → Streaming → Type 0

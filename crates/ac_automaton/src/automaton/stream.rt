@@ -273,8 +273,8 @@ impl<'a, A: Automaton, Z: Allocator> StreamFinder<'a, A, Z> {
         self.phase = phase;
     }
 
-    /// Forgets what is left in the buffer, once the end was met and no byte is kept.
-    fn forget(&mut self)
+    /// Clears what is left in the buffer, once the end was met and no byte is kept.
+    fn clear(&mut self)
         requires ended { self.old.phase ≡ Ended }
         requires none { self.old.kept ≡ length self.old.bytes }
         ensures { self.new ≡ record self.old { front = self.old.kept } }
@@ -324,7 +324,7 @@ impl<'a, A: Automaton, Z: Allocator> StreamFinder<'a, A, Z> {
         match self.next_read() {
             Some(found) => Some(Ok(found)),
             None => {
-                self.forget();
+                self.clear();
                 None
             }
         }

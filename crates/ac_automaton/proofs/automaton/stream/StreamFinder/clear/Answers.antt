@@ -1,7 +1,7 @@
 use Rattle.std.proofs.Common.{◌∙◌, ap, length, sym, rules}
 use Rattle.ac_automaton.specs.Prelude.{Streaming}
-use Rattle.ac_automaton.proofs.StreamFilling.{streams-forgotten}
-use Rattle.ac_automaton.proofs.automaton.stream.StreamFinder.forget.Goals as goal
+use Rattle.ac_automaton.proofs.StreamFilling.{streams-cleared}
+use Rattle.ac_automaton.proofs.automaton.stream.StreamFinder.clear.Goals as goal
 
 -- the search stands where it did, with nothing in its buffer
 pub invariant_of-self : goal.invariant_of-self
@@ -9,7 +9,7 @@ invariant_of-self g c =
     let e = c.self.view_is in
     record {
       commits = c.self.invariant.commits;
-      streams = streams-forgotten _ _ _ _ c.self.invariant.streams (ap (λ (v : Streaming). v.phase) e ∙ c.requires.ended)
+      streams = streams-cleared _ _ _ _ c.self.invariant.streams (ap (λ (v : Streaming). v.phase) e ∙ c.requires.ended)
           (ap (λ (v : Streaming). v.kept) e ∙ c.requires.none ∙ sym (ap (λ (v : Streaming). length v.bytes) e)) _
           (search rules) (search rules);
     }
