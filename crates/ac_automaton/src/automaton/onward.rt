@@ -163,7 +163,6 @@ impl<'a, A: Automaton> Onward<'a, A> {
     /// Reads on up to where a call of the prefilter pays and may be made: the automaton is at its start with nothing in hand,
     /// and a byte is left. Returns whether it has come to such a place; else it has read on as `read_on` does.
     fn read_to_start(&mut self, end: usize, tape: &mut Tape<'_>, looks: &mut Looks) -> bool
-        requires past { self.old.core.stops ≡ false }
         requires may { MayReadOn (A.seen self.old.core.automaton.now) tape.old end self.old.cursor self.old.byte looks.old }
         ensures grows { Grows looks.old looks.new }
         ensures same { KeepsOnward self.old self.new }
@@ -214,7 +213,6 @@ impl<'a, A: Automaton> Onward<'a, A> {
 
     /// Reads on as far as it has to: up to a byte that leads to the dead state, which it then has in hand, or up to an end.
     fn read_on(&mut self, end: usize, tape: &mut Tape<'_>, looks: &mut Looks)
-        requires past { self.old.core.stops ≡ false }
         requires skips { IfSome self.old.first (λ f. SkipsToFirst (A.seen self.old.core.automaton.now) (first_bytes_of f)) }
         requires may { MayReadOn (A.seen self.old.core.automaton.now) tape.old end self.old.cursor self.old.byte looks.old }
         ensures grows { Grows looks.old looks.new }
@@ -261,10 +259,9 @@ impl<'a, A: Automaton> Onward<'a, A> {
         true
     }
 
-    /// Reads on as `read_alive` does. It skips ahead to the first bytes where some are given and that pays.
+    /// Reads on as `read_past` does. It skips ahead to the first bytes where some are given and that pays.
     #[inline]
     fn read_or_skip(&mut self, end: usize, tape: &mut Tape<'_>, looks: &mut Looks) -> Option<u8>
-        requires past { self.old.core.stops ≡ false }
         requires skips { IfSome self.old.first (λ f. SkipsToFirst (A.seen self.old.core.automaton.now) (first_bytes_of f)) }
         requires may { MayReadUpTo (A.seen self.old.core.automaton.now) tape.old end self.old.cursor looks.old }
         ensures grows { Grows looks.old looks.new }
@@ -274,11 +271,11 @@ impl<'a, A: Automaton> Onward<'a, A> {
     {
         match self.first {
             Some(first) => self.skip_alive(first, end, tape, looks),
-            None => self.core.read_alive(end, &mut self.cursor, tape, looks),
+            None => self.core.read_past(end, &mut self.cursor, tape, looks),
         }
     }
 
-    /// Reads on as `read_alive` does, and skips ahead to the first bytes where the automaton is at its start and that pays.
+    /// Reads on as `read_past` does, and skips ahead to the first bytes where the automaton is at its start and that pays.
     #[inline(never)]
     fn skip_alive(
         &mut self,
@@ -287,7 +284,6 @@ impl<'a, A: Automaton> Onward<'a, A> {
         tape: &mut Tape<'_>,
         looks: &mut Looks,
     ) -> Option<u8>
-        requires past { self.old.core.stops ≡ false }
         requires skips { SkipsToFirst (A.seen self.old.core.automaton.now) (first_bytes_of first) }
         requires may { MayReadUpTo (A.seen self.old.core.automaton.now) tape.old end self.old.cursor looks.old }
         ensures grows { Grows looks.old looks.new }
@@ -320,7 +316,6 @@ impl<'a, A: Automaton> Onward<'a, A> {
     /// Reads on without the prefilter for a while, by a byte at least, or to one that leads to the dead state.
     #[inline]
     fn read_rest(&mut self, end: usize, tape: &mut Tape<'_>, looks: &mut Looks) -> Option<u8>
-        requires past { self.old.core.stops ≡ false }
         requires may { MayReadUpTo (A.seen self.old.core.automaton.now) tape.old end self.old.cursor looks.old }
         requires before { self.old.cursor.at < end }
         ensures grows { Grows looks.old looks.new }
@@ -330,7 +325,7 @@ impl<'a, A: Automaton> Onward<'a, A> {
     {
         let from = self.cursor.at;
         let to = self.budget.rest_end(from, end);
-        let byte = self.core.read_alive(to, &mut self.cursor, tape, looks);
+        let byte = self.core.read_past(to, &mut self.cursor, tape, looks);
         self.budget.record_rest(self.cursor.at - from);
         byte
     }
@@ -427,10 +422,10 @@ pub(super) fn match_ending<A: Automaton>(automaton: &A, pattern: PatternID, end:
 impl<'a, A: Automaton> Core<'a, A> {
     ghost use Rattle.ac_automaton.specs.Onward.{GivesAt, IsCore};
 
-    /// Reads on up to a byte that leads to the dead state, which it returns, or up to an offset, or if it stops at a match to a
-    /// state that has some. The cursor stays before that byte.
+    /// Reads on past matches, up to a byte that leads to the dead state, which it returns, or up to an offset. The cursor stays
+    /// before that byte.
     #[inline]
-    pub(super) fn read_alive(
+    fn read_past(
         &self,
         to: usize,
         cursor: &mut Cursor,
@@ -439,19 +434,16 @@ impl<'a, A: Automaton> Core<'a, A> {
     ) -> Option<u8>
         requires may { MayReadAlive (A.seen self.now.automaton.now) tape.old to cursor.old }
         ensures grows { Grows looks.old looks.new }
-        ensures reads { self.now.stops ≡ false
-            → ReadsUpTo (A.seen self.now.automaton.now) tape.old to cursor.old looks.old cursor.new result tape.new looks.new }
-        ensures comes { ReadsAlive (A.seen self.now.automaton.now) self.now.stops tape.old.bytes to cursor.old cursor.new result }
+        ensures reads { ReadsUpTo (A.seen self.now.automaton.now) tape.old to cursor.old looks.old cursor.new result tape.new
+            looks.new }
     {
         let scanner = Scanner {
             automaton: self.automaton,
             anchored: Anchored::No,
             span: Span { start: 0, end: to },
         };
-        match scanner.read(self.stops, cursor, tape, looks) {
-            Some(dead) => Some(dead.byte),
-            None => None,
-        }
+        let dead = scanner.read(false, cursor, tape, looks)?;
+        Some(dead.byte)
     }
 
     /// Returns what is given that leaves a state, or `None` where nothing is picked in its string, or if the search stops at a

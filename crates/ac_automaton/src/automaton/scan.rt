@@ -69,7 +69,8 @@ impl<'a, A: Automaton> Scanner<'a, A> {
 
     /// Reads on up to a byte that leads to the dead state, which it returns, or up to the end of the span, or if it stops at a
     /// match to a state that has some. The cursor stays before that byte.
-    #[inline]
+    // A part of its caller's loop, where whether it stops at a match is known: else the step becomes a call.
+    #[inline(always)]
     pub(super) fn read(
         &self,
         stops: bool,
@@ -89,29 +90,29 @@ impl<'a, A: Automaton> Scanner<'a, A> {
         let (mut state, mut at) = (cursor.state, cursor.at);
         let end = self.span.end;
         while at < end {
+            let here = Cursor { state, at };
             let byte = tape.read(at, looks);
-            let next = self.automaton.next_state(self.anchored, state, byte, looks);
+            let next = self
+                .automaton
+                .next_state(self.anchored, state, byte, looks);
+            state = next;
+            at += 1;
             if self.is_to_stop(stops, next) {
-                let past = Cursor {
-                    state: next,
-                    at: at + 1,
-                };
+                let past = Cursor { state, at };
                 if self.automaton.is_dead(next) {
-                    *cursor = Cursor { state, at };
+                    *cursor = here;
                     return Some(Dead { byte, past });
                 }
                 *cursor = past;
                 return None;
             }
-            state = next;
-            at += 1;
         }
         *cursor = Cursor { state, at };
         None
     }
 
     /// Returns whether nothing is to be read on from a state: it is dead, or has matches where the search stops at one.
-    #[inline]
+    #[inline(always)]
     fn is_to_stop(&self, stops: bool, state: StateID) -> bool
         requires state { IsState (scanner A.seen self.now).scan.stands state }
         ensures { TellsStop (scanner A.seen self.now).scan stops state result }

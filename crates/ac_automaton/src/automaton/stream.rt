@@ -10,14 +10,14 @@ ghost use Rattle.ac_automaton.specs.Streams.{Fills, HasGivenSettled, GivesLast, 
 
 use super::Automaton;
 use super::onward::{ChainRest, Core, Given, chain_rest, match_ending, take_next};
-use super::scan::Cursor;
+use super::scan::{Cursor, Scanner};
 use super::stream_settled::{Phase, buffer_len, most_kept, settled_from};
 use ac_util::device::Source;
 use ac_util::error::{MatchError, StreamError};
 use ac_util::history::History;
 use ac_util::looks::open;
 use ac_util::primitives::StateID;
-use ac_util::search::{Anchored, Input, Match, MatchKind};
+use ac_util::search::{Anchored, Input, Match, MatchKind, Span};
 use ac_util::tally::Tally;
 use std::alloc::Allocator;
 use std::io;
@@ -344,13 +344,26 @@ fn read_after<R: Source>(reader: &mut R, buffer: &mut [u8], filled: usize) -> io
 impl<'a, A: Automaton> Core<'a, A> {
     ghost use Rattle.ac_automaton.specs.Onward.{IsCore};
 
-    /// Reads on in some bytes up to their end, or as far as `read_alive` does.
+    /// Reads on in some bytes up to their end, or as far as `Scanner::read` does.
     fn read_through(&self, bytes: &[u8], cursor: &mut Cursor) -> Option<u8>
         requires state { IsState ((A.seen self.now.automaton.now).stands No) cursor.old.state }
         ensures { ReadsAlive (A.seen self.now.automaton.now) self.now.stops bytes.now (length bytes.now) cursor.old cursor.new result }
     {
         let (mut tape, mut looks) = open(&Input::new(bytes));
-        self.read_alive(bytes.len(), cursor, &mut tape, &mut looks)
+        let scanner = Scanner {
+            automaton: self.automaton,
+            anchored: Anchored::No,
+            span: Span {
+                start: 0,
+                end: bytes.len(),
+            },
+        };
+        if self.stops {
+            let dead = scanner.read(true, cursor, &mut tape, &mut looks)?;
+            return Some(dead.byte);
+        }
+        let dead = scanner.read(false, cursor, &mut tape, &mut looks)?;
+        Some(dead.byte)
     }
 
     /// Returns what is given that leaves a state, if that is settled: where the search stops at a match, a byte was read that
