@@ -69,8 +69,7 @@ impl<'a, A: Automaton> Scanner<'a, A> {
 
     /// Reads on up to a byte that leads to the dead state, which it returns, or up to the end of the span, or if it stops at a
     /// match to a state that has some. The cursor stays before that byte.
-    // A part of its caller's loop, where whether it stops at a match is known: else the step becomes a call.
-    #[inline(always)]
+    #[inline]
     pub(super) fn read(
         &self,
         stops: bool,
@@ -89,7 +88,10 @@ impl<'a, A: Automaton> Scanner<'a, A> {
     {
         let (mut state, mut at) = (cursor.state, cursor.at);
         let end = self.span.end;
-        while at < end {
+        if at >= end {
+            return None;
+        }
+        loop {
             let here = Cursor { state, at };
             let byte = tape.read(at, looks);
             let next = self
@@ -97,7 +99,7 @@ impl<'a, A: Automaton> Scanner<'a, A> {
                 .next_state(self.anchored, state, byte, looks);
             state = next;
             at += 1;
-            if self.is_to_stop(stops, next) {
+            if at >= end || self.is_to_stop(stops, next) {
                 let past = Cursor { state, at };
                 if self.automaton.is_dead(next) {
                     *cursor = here;
@@ -107,12 +109,10 @@ impl<'a, A: Automaton> Scanner<'a, A> {
                 return None;
             }
         }
-        *cursor = Cursor { state, at };
-        None
     }
 
     /// Returns whether nothing is to be read on from a state: it is dead, or has matches where the search stops at one.
-    #[inline(always)]
+    #[inline]
     fn is_to_stop(&self, stops: bool, state: StateID) -> bool
         requires state { IsState (scanner A.seen self.now).scan.stands state }
         ensures { TellsStop (scanner A.seen self.now).scan stops state result }

@@ -1,4 +1,4 @@
-use Rattle.std.proofs.Common.{◌≡◌, ◌-◌, ◌≤◌, List, ℕ, Some, true}
+use Rattle.std.proofs.Common.{◌≡◌, ◌-◌, ◌<◌, ◌≤◌, List, ℕ, Some, true}
 use Rattle.ac_automaton.specs.Util.{No}
 use Rattle.ac_automaton.specs.Automata.{IsState}
 use Rattle.ac_automaton.specs.Prelude.{Grows, IsAlive, ScanText, scan_of, work_of}
@@ -15,7 +15,7 @@ invariant-loop-at g l =
       bytes : l.tape.bytes ≡ l.fn.tape.bytes;
       grows : Grows l.fn.looks l.looks;
       onward : l.fn.cursor.at ≤ l.at;
-      within : l.fn.cursor.at ≤ l.self.span.end → l.at ≤ l.self.span.end;
+      before : l.at < l.self.span.end;
       comes : l.self.anchored ≡ No
           → ComesUpTo a l.fn.tape l.self.span.end l.fn.cursor l.fn.looks (record { state = l.state; at = l.at }) l.tape l.looks;
       alive : l.self.anchored ≡ No → (v : List ℕ) → a.stands No l.fn.cursor.state (Some v)
