@@ -1,6 +1,6 @@
 -- An automaton that reads on alive, one byte on: where each walk stands then that stood at its node, and that it has passed over no
 -- match.
-use Rattle.std.proofs.Common.{◌⊎◌, ◌≢◌, ◌≡◌, ℕ, ◌+◌, ◌<◌, ◌≤◌, Bool, true, false, List, [], inl, inr, refl, ap, sym, ◌∙◌, subst, arith, None, Some, slice_index}
+use Rattle.std.proofs.Common.{◌≡◌, ℕ, ◌+◌, ◌<◌, ◌≤◌, Bool, true, false, List, [], inl, inr, refl, ap, sym, ◌∙◌, subst, arith, None, Some, slice_index}
 use Rattle.std.proofs.lemmas.Bool.{cases_lt, false≢true}
 use Rattle.ac_automaton.specs.Util.{No, Node, plain_byte, Search}
 use Rattle.ac_util.specs.Prelude.{reached, step, text}
@@ -93,28 +93,21 @@ module _ (a : AutomatonView) (stops : Bool) (bytes : List ℕ) (to : ℕ) where
           pub alive-stops : dead ≡ true → StopsAlive a stops bytes to v cursor here (Some byte)
           alive-stops gone = record { comes = comes; passes = passes-here; over = (before, is, (tells No _ leads-to).0 gone) }
 
-          -- to where it stops: at the end, or at a state with matches
-          alive-there : dead ≡ false → (to ≤ here.at + 1) ⊎ ((stops ≡ true) × (a.listed next ≢ []))
+          -- to a state with matches at which it stops
+          pub alive-match : dead ≡ false → (stop : Bool) → TellsStop (scan_of a No) stops next stop → stop ≡ true
               → StopsAlive a stops bytes to v cursor there None
-          alive-there alive' over = by (step_of a.built No (Some comes.node) byte) refl
+          alive-match alive' stop tells-stop is-stop = by (step_of a.built No (Some comes.node) byte) refl
             where
               by : (u : Node) → step_of a.built No (Some comes.node) byte ≡ u → StopsAlive a stops bytes to v cursor there None
               by None e = absurd (false≢true (sym alive' ∙ (tells No _ leads-to).1 e))
               by (Some u) e = record {
                 comes = comes-on u e;
                 passes = λ t front q of stands k low high. alive.passes t front q of stands k low high;
-                over = over;
+                over = elim ((tells-stop _ leads-to).0 is-stop) [
+                  | inl gone ↦ absurd (let no = sym gone ∙ e in cc)
+                  | inr stopped ↦ inr stopped
+                ];
               }
-
-          pub alive-last : dead ≡ false → to ≤ here.at + 1 → StopsAlive a stops bytes to v cursor there None
-          alive-last alive' over = alive-there alive' (inl over)
-
-          pub alive-match : dead ≡ false → (stop : Bool) → TellsStop (scan_of a No) stops next stop → stop ≡ true
-              → StopsAlive a stops bytes to v cursor there None
-          alive-match alive' stop tells-stop is-stop = elim ((tells-stop _ leads-to).0 is-stop) [
-            | inl gone ↦ absurd (false≢true (sym alive' ∙ (tells No _ leads-to).1 gone))
-            | inr stopped ↦ alive-there alive' (inr stopped)
-          ]
 
         -- or on
         module _ (stop : Bool) (tells-stop : TellsStop (scan_of a No) stops next stop) (goes : stop ≡ false)

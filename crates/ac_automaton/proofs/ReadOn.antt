@@ -132,16 +132,3 @@ module _ {s : Scan} {t : ScanText} {cursor : Cursor} (alive : IsAlive s t cursor
       → new_work.counts ≡ more_looks (looks_of s.most s.built s.anchored (node s t cursor.at) byte) read
       → ScansTo s t cursor.at work (cursor.at + 1) new_work
   scans-byte {byte} {work} {new_work} one_or_two unread is room there counted looked = search (rules, node-step, step-within)
-
-  -- and passes over no match
-  pub passes-byte : {next byte : ℕ} {work new_work : Work} {read : Counts} → (s.most ≡ 1) ⊎ (s.most ≡ 2)
-      → work.place ≤ cursor.at → byte ≡ slice_index t.bytes cursor.at → cursor.at < length t.bytes
-      → new_work.place ≡ cursor.at + 1 → read ≡ one_more_read work.counts
-      → ((u : Node) → s.stands cursor.state u → s.stands next (step_of s.built s.anchored u byte))
-      → ((u : Node) → s.stands cursor.state u → new_work.counts ≡ more_looks (looks_of s.most s.built s.anchored u byte) read)
-      → PassesNoMatch s t cursor.at work (record { state = next; at = cursor.at + 1 }) new_work
-  passes-byte one_or_two unread is room there counted steps looked = record {
-    is_at = at-next is room (steps _ alive.is_at.there);
-    scans = scans-byte one_or_two unread is room there counted (looked _ alive.is_at.there);
-    none = λ k low high. absurd (omega arith);
-  }

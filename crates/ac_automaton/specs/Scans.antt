@@ -1,10 +1,9 @@
 -- What a search has done with its tape; a scan: an automaton under an anchoring, the text that it reads, how far it has come
 -- in it, and how it skips.
-use Rattle.std.specs.Prelude.{◌≡◌, ◌≢◌, ℕ, ◌+◌, ◌-◌, ◌*◌, ◌<◌, ◌≤◌, Bool, false, true, option_map, List, None, length, max, ◌⊎◌, ◌↔◌, IsTrue, [], Some, Option}
+use Rattle.std.specs.Prelude.{◌≡◌, ◌≢◌, ℕ, ◌+◌, ◌-◌, ◌*◌, ◌<◌, ◌≤◌, Bool, false, true, List, None, length, max, ◌⊎◌, ◌↔◌, IsTrue, [], Some, Option}
 use Rattle.ac_util.specs.declared.search.Anchored.{Anchored}
 use Rattle.ac_automaton.specs.Util.{Built, Counts, MatchKind, No, no_counts, Node, plain_patterns, reached, Search, Taped, text, Yes, credit, may_skip, Span, FirstOf, IsSkipFor, Skip, skip_for}
 use Rattle.ac_automaton.specs.declared.automaton.scan.Cursor.{Cursor}
-use Rattle.ac_automaton.specs.declared.automaton.scan.Dead.{Dead}
 use Rattle.ac_automaton.specs.declared.automaton.scan.Scanner.{Scanner}
 use Rattle.ac_automaton.specs.Automata.{AutomatonView, IsState, matches_of}
 use Rattle.ac_util.specs.Prefilters.Skip.{Needle}
@@ -209,20 +208,6 @@ pub record MayRead (v : ScannerView) (tape : Taped) (cursor : Cursor) : Type 0 w
   pub state : IsState v.scan.stands cursor.state
   pub unread : tape.place ≤ cursor.at
   pub inside : v.span.end ≤ length tape.bytes
-
--- the byte that was read
-abbrev pub byte_of : Option Dead → Option ℕ
-byte_of result = option_map (λ (d : Dead). d.byte) result
-
--- where a scan stands past the byte that it was read on to, if it leads to the dead node
-abbrev pub past_dead : Cursor → Option Dead → Cursor
-past_dead cursor None = cursor
-past_dead cursor (Some dead) = dead.past
-
--- it has read on by a byte at least, if one was left, up to a state that has matches or is dead, or to the end of its span
-abbrev pub ReadsAhead : ScannerView → Cursor → Taped → Counts → Option Dead → Cursor → Taped → Counts → Type 0
-ReadsAhead v cursor tape counts result new_cursor new_tape new_counts = cursor.at < v.span.end
-    → Advances v cursor tape counts (past_dead new_cursor result) new_tape new_counts × Stops v (past_dead new_cursor result)
 
 -- a test tells whether nothing is to be read on from a state: it is dead, or has matches where the search stops at one
 abbrev pub TellsStop : Scan → Bool → ℕ → Bool → Type 0

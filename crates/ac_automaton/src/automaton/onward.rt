@@ -442,8 +442,7 @@ impl<'a, A: Automaton> Core<'a, A> {
             anchored: Anchored::No,
             span: Span { start: 0, end: to },
         };
-        let dead = scanner.read(false, cursor, tape, looks)?;
-        Some(dead.byte)
+        scanner.read(false, cursor, tape, looks)
     }
 
     /// Returns what is given that leaves a state, or `None` where nothing is picked in its string, or if the search stops at a

@@ -2,13 +2,13 @@
 //!
 //! A search adds to it what it answers, and nothing else: where the automaton stands, what was read and what was
 //! counted is kept here.
-ghost use Rattle.std.specs.Prelude.{◌≡◌, false, true};
+ghost use Rattle.std.specs.Prelude.{◌≡◌, false};
 ghost use Rattle.ac_automaton.specs.Util.{No};
 ghost use Rattle.ac_automaton.specs.Automata.{IsState};
 ghost use Rattle.ac_automaton.specs.Finds.{FindsAt, StandsIn};
 ghost use Rattle.ac_automaton.specs.Overlaps.{is_due};
 ghost use Rattle.ac_automaton.specs.Onward.{ReadsAlive, ReadsUpTo};
-ghost use Rattle.ac_automaton.specs.Scans.{Advances, Follows, Grows, MayAdvance, MayRead, ReadsAhead, Stops, TellsOver, TellsStop, byte_of, scanner};
+ghost use Rattle.ac_automaton.specs.Scans.{Advances, Follows, Grows, MayAdvance, MayRead, Stops, TellsOver, TellsStop, scanner};
 
 use super::Automaton;
 use ac_util::looks::{Looks, Tape};
@@ -20,13 +20,6 @@ use ac_util::search::{Anchored, Match, Span};
 pub(super) struct Cursor {
     pub(super) state: StateID,
     pub(super) at: usize,
-}
-
-/// A byte that leads to the dead state, and where an automaton stands past it.
-#[derive(Clone, Copy)]
-pub(super) struct Dead {
-    pub(super) byte: u8,
-    pub(super) past: Cursor,
 }
 
 /// Returns whether a match of this length counts after so many bytes of the span were read. In an anchored search it
@@ -76,39 +69,33 @@ impl<'a, A: Automaton> Scanner<'a, A> {
         cursor: &mut Cursor,
         tape: &mut Tape<'_>,
         looks: &mut Looks,
-    ) -> Option<Dead>
+    ) -> Option<u8>
         requires may { MayRead (scanner A.seen self.now) tape.old cursor.old }
         ensures grows { Grows looks.old looks.new }
-        ensures advances { stops ≡ true
-            → ReadsAhead (scanner A.seen self.now) cursor.old tape.old looks.old result cursor.new tape.new looks.new }
         ensures reads { self.now.anchored ≡ No → stops ≡ false → ReadsUpTo (A.seen self.now.automaton.now) tape.old
-            self.now.span.end cursor.old looks.old cursor.new (byte_of result) tape.new looks.new }
+            self.now.span.end cursor.old looks.old cursor.new result tape.new looks.new }
         ensures comes { self.now.anchored ≡ No → ReadsAlive (A.seen self.now.automaton.now) stops tape.old.bytes
-            self.now.span.end cursor.old cursor.new (byte_of result) }
+            self.now.span.end cursor.old cursor.new result }
     {
         let (mut state, mut at) = (cursor.state, cursor.at);
         let end = self.span.end;
-        if at >= end {
-            return None;
-        }
-        loop {
+        while at < end {
             let here = Cursor { state, at };
             let byte = tape.read(at, looks);
-            let next = self
-                .automaton
-                .next_state(self.anchored, state, byte, looks);
+            let next = self.automaton.next_state(self.anchored, state, byte, looks);
             state = next;
             at += 1;
-            if at >= end || self.is_to_stop(stops, next) {
-                let past = Cursor { state, at };
+            if self.is_to_stop(stops, next) {
                 if self.automaton.is_dead(next) {
                     *cursor = here;
-                    return Some(Dead { byte, past });
+                    return Some(byte);
                 }
-                *cursor = past;
+                *cursor = Cursor { state, at };
                 return None;
             }
         }
+        *cursor = Cursor { state, at };
+        None
     }
 
     /// Returns whether nothing is to be read on from a state: it is dead, or has matches where the search stops at one.
@@ -131,8 +118,15 @@ impl<'a, A: Automaton> Scanner<'a, A> {
         ensures advances { Advances (scanner A.seen self.now) cursor.old tape.old looks.old cursor.new tape.new looks.new }
         ensures stops { Stops (scanner A.seen self.now) cursor.new }
     {
-        if let Some(dead) = self.read(true, cursor, tape, looks) {
-            *cursor = dead.past;
+        let (mut state, mut at) = (cursor.state, cursor.at);
+        let end = self.span.end;
+        loop {
+            state = self.read_byte(Cursor { state, at }, tape, looks);
+            at += 1;
+            if at >= end || self.automaton.is_match_or_dead(state) {
+                *cursor = Cursor { state, at };
+                return;
+            }
         }
     }
 

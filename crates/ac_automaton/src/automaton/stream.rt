@@ -359,11 +359,9 @@ impl<'a, A: Automaton> Core<'a, A> {
             },
         };
         if self.stops {
-            let dead = scanner.read(true, cursor, &mut tape, &mut looks)?;
-            return Some(dead.byte);
+            return scanner.read(true, cursor, &mut tape, &mut looks);
         }
-        let dead = scanner.read(false, cursor, &mut tape, &mut looks)?;
-        Some(dead.byte)
+        scanner.read(false, cursor, &mut tape, &mut looks)
     }
 
     /// Returns what is given that leaves a state, if that is settled: where the search stops at a match, a byte was read that

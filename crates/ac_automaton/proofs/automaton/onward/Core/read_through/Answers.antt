@@ -1,4 +1,4 @@
-use Rattle.std.proofs.Common.{◌≡◌, Bool, List, ℕ, Option, length, ap, refl, Some, sym, subst, ◌∙◌}
+use Rattle.std.proofs.Common.{◌≡◌, Bool, List, ℕ, Option, length, ap, refl, sym, subst, ◌∙◌}
 use Rattle.ac_automaton.specs.Util.{InputView, Taped}
 use Rattle.ac_automaton.specs.Prelude.{Cursor}
 use Rattle.ac_automaton.specs.Onward.{ReadsAlive}
@@ -21,10 +21,8 @@ through g c stops is there byte reads =
 
 pub returns-then-self : goal.returns-then-self
 returns-then-self g c =
-    through g (goal.at.returns-then-self g c).After-open-tape _ (sym c.if-self.true) c.read.new.cursor (Some c.in_ok-dead.dead.byte)
-    (c.in_ok-dead.ensures.comes refl)
+    through g (goal.at.returns-then-self g c).After-open-tape _ (sym c.if-self.true) c.read.new.cursor c.read.result (c.read.ensures.comes refl)
 
 pub returns : goal.returns
 returns g c =
-    through g (goal.at.returns g c).After-open-tape _ (sym c.if-self.false) c.read-2.new.cursor (Some c.in_ok-dead-2.dead.byte)
-    (c.in_ok-dead-2.ensures.comes refl)
+    through g (goal.at.returns g c).After-open-tape _ (sym c.if-self.false) c.read-2.new.cursor c.read-2.result (c.read-2.ensures.comes refl)

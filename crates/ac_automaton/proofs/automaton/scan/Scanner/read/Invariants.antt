@@ -1,10 +1,9 @@
-use Rattle.std.proofs.Common.{◌≡◌, ◌-◌, ◌<◌, ◌≤◌, List, ℕ, Some, true}
+use Rattle.std.proofs.Common.{◌≡◌, ◌-◌, ◌≤◌, List, ℕ, Some}
 use Rattle.ac_automaton.specs.Util.{No}
 use Rattle.ac_automaton.specs.Automata.{IsState}
-use Rattle.ac_automaton.specs.Prelude.{Grows, IsAlive, ScanText, scan_of, work_of}
+use Rattle.ac_automaton.specs.Prelude.{Grows}
 use Rattle.ac_automaton.proofs.AliveSteps.{IsAlongAlive}
 use Rattle.ac_automaton.proofs.OnwardSteps.{ComesUpTo}
-use Rattle.ac_automaton.proofs.ReadAhead.{IsAlong}
 use Rattle.ac_automaton.proofs.automaton.scan.Scanner.read.Given as goal
 
 -- any walk has come as far, and so has any node; and if it stops at a match any scan has, over none
@@ -15,14 +14,10 @@ invariant-loop-at g l =
       bytes : l.tape.bytes ≡ l.fn.tape.bytes;
       grows : Grows l.fn.looks l.looks;
       onward : l.fn.cursor.at ≤ l.at;
-      before : l.at < l.self.span.end;
       comes : l.self.anchored ≡ No
           → ComesUpTo a l.fn.tape l.self.span.end l.fn.cursor l.fn.looks (record { state = l.state; at = l.at }) l.tape l.looks;
       alive : l.self.anchored ≡ No → (v : List ℕ) → a.stands No l.fn.cursor.state (Some v)
           → IsAlongAlive a l.stops l.fn.tape.bytes l.self.span.end v l.fn.cursor (record { state = l.state; at = l.at });
-      along : l.stops ≡ true → (t : ScanText) → t.bytes ≡ l.fn.tape.bytes → IsAlive (scan_of a l.self.anchored) t l.fn.cursor
-          → IsAlong (scan_of a l.self.anchored) t l.fn.cursor.at (work_of l.fn.tape l.fn.looks)
-          (record { state = l.state; at = l.at }) (work_of l.tape l.looks);
       state : IsState (a.stands l.self.anchored) l.state;
       unread : l.tape.place ≤ l.at;
     }
