@@ -133,10 +133,10 @@ may-find-first {v} {stops} {tape} may small ordered starts leftmost =
 -- what a find answers that begins there is said of its finder
 pub finds-in : (a : AutomatonView) {anchored : Anchored} {span : Span} {stops : Bool} {tape new_tape : Taped}
     {counts new_counts : Counts} {found : Option Occurrence} {start : Cursor} → start.at ≡ span.start → tape.place ≤ span.start
-    → FindsOn (record { scan = scan_of a anchored; span = span }) stops start tape counts found new_tape new_counts
+    → FindsOn (record { scan = scan_of a anchored true; span = span }) stops start tape counts found new_tape new_counts
     → FindsIn (finding_of a anchored stops) span tape counts found new_tape new_counts
 finds-in a {anchored} {span} {stops} {tape} {new_tape} {counts} {new_counts} {found} {start} there unread finds =
-    let s = scan_of a anchored in
+    let s = scan_of a anchored true in
     record {
       searched = finds.searched (work_of tape counts)
           (subst (λ (k : ℕ). ScansTo s (in_memory tape.bytes span) span.start (work_of tape counts) k (work_of tape counts))

@@ -111,3 +111,13 @@ module _ (built : Built) (listed : List ℕ) (start end : ℕ) where
 pub nil-from_not : (xs : List ℕ) → (xs ≢ [] → ⊥) → xs ≡ []
 nil-from_not [] h = refl
 nil-from_not (x ∷ xs) h = absurd (h (λ e. absurd (cc)))
+
+-- a state that lists nothing has no matches
+pub nothing-listed : (built : Built) (anchored : Anchored) (u : Node) {listed : List ℕ} → Lists built anchored u listed
+    → listed ≡ [] → matches_of built anchored u ≡ []
+nothing-listed built No u lists none = sym lists ∙ none
+nothing-listed built Yes u lists none = by (matches_of built Yes u) (sym lists.first ∙ none)
+  where
+    by : (ns : List ℕ) → ns ++ lists.passed_over ≡ [] → ns ≡ []
+    by [] e = refl
+    by (n ∷ ns) e = absurd (cc)

@@ -1,4 +1,3 @@
-pub mod AliveSteps
 pub mod Branched
 pub mod Branching
 pub mod Chains
@@ -22,18 +21,20 @@ pub mod Grown
 pub mod Heads
 pub mod Keeping
 mod Leading
+pub mod Led
+pub mod LedWalks
 pub mod Lengths
 pub mod Linking
 pub mod ListLoop
 mod ListSteps
 pub mod ListsOf
+pub mod Looks
 pub mod Misses
 pub mod OnwardGives
 pub mod OnwardGoes
+pub mod OnwardLists
 pub mod OnwardNeedle
 pub mod OnwardReads
-pub mod OnwardSkips
-pub mod OnwardSteps
 pub mod Orders
 pub mod Overlapping
 pub mod PastGives
@@ -44,6 +45,7 @@ pub mod Ranges
 pub mod ReadAhead
 pub mod ReadOn
 pub mod Reading
+pub mod ReadingOn
 pub mod Rising
 pub mod Roots
 pub mod Skipping

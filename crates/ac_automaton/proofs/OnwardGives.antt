@@ -13,12 +13,14 @@ use Rattle.ac_util.proofs.Onward.{byte_at}
 use Rattle.ac_util.proofs.SearchLoop.{step-paid}
 use Rattle.ac_automaton.specs.Prelude.{AutomatonView, Cursor, matches_of, place_of, plain_of, search_of, step_of, Work}
 use Rattle.ac_automaton.specs.Commits.{chain_at, ending_in, IsCommit, reads_on}
-use Rattle.ac_automaton.specs.Onward.{chain_of, first_given, GivesAt, GivesOf, HasCounted, HasGiven, HasStopped, in_hand, IsCounted, IsGiven, IsOnward, IsRestBefore, MayTakeFrom, pending, TakesKnown, tried}
+use Rattle.ac_automaton.specs.Onward.{chain_of, first_given, GivesAt, GivesOf, HasCounted, HasGiven, HasStopped, IsCounted, IsGiven, IsOnward, IsRestBefore, MayTakeFrom, pending, TakesKnown}
+use Rattle.ac_automaton.specs.Reads.{in_hand, tried}
+use Rattle.ac_automaton.specs.Scans.{scan_of}
 use Rattle.ac_automaton.specs.declared.automaton.commits.ChainMatch.{ChainMatch}
 use Rattle.ac_automaton.specs.declared.automaton.commits.Commit.{Commit}
 use Rattle.ac_automaton.specs.declared.automaton.onward.ChainRest.{ChainRest}
 use Rattle.ac_automaton.specs.declared.automaton.onward.Given.{Given}
-use Rattle.ac_automaton.proofs.OnwardSteps.{on-leftmost, on-some}
+use Rattle.ac_automaton.proofs.OnwardLists.{on-leftmost, on-some}
 use Rattle.ac_automaton.proofs.PastGives.{ends-there, goes-known, goes-on, has-bytes, known-high, known-numbered, known-onward, known-within, never-dead, next, numbered, onward, pattern-within, picks-first, picks-known, rest-within}
 
 -- of a state with matches the first one is given, and of one without none
@@ -142,7 +144,7 @@ module _ (a : AutomatonView) (on : reads_on a.built ≡ true) (chains : List (Li
     where
       by : (hand : Option ℕ) → IfSome hand (λ b. (cursor.at < end) × (b ≡ slice_index bytes cursor.at))
           → MatchOption hand (cursor.at ≡ end) (λ b. step_of a.built No (Some v) b ≡ None)
-          → HasCounted a q start cursor hand v (tried a q start v hand) work.counts
+          → HasCounted a q start cursor hand v (tried (scan_of a No false) v hand) work.counts
           → HasGiven a chains q start None rest new_cursor new_byte work
       by None h ends counted = record {
         answer = sym (ends-there a on chains q is refl v cursor.at here ends none);
@@ -168,7 +170,7 @@ module _ (a : AutomatonView) (on : reads_on a.built ≡ true) (chains : List (Li
     given-within = pattern-within a on chains q is refl v cursor.at here given gives
 
     -- each look is paid
-    paid : tried a q start v byte + credit a.most (Some gives.node) ≤ credit a.most (Some v) + 1
+    paid : tried (scan_of a No false) v byte + credit a.most (Some gives.node) ≤ credit a.most (Some v) + 1
     paid = by byte stopped.stands.hand stopped.over
       where
         ns : List Occurrence
@@ -176,7 +178,7 @@ module _ (a : AutomatonView) (on : reads_on a.built ≡ true) (chains : List (Li
 
         by : (hand : Option ℕ) → IfSome hand (λ b. (cursor.at < end) × (b ≡ slice_index bytes cursor.at))
             → MatchOption hand (cursor.at ≡ end) (λ b. step_of a.built No (Some v) b ≡ None)
-            → tried a q start v hand + credit a.most (Some gives.node) ≤ credit a.most (Some v) + 1
+            → tried (scan_of a No false) v hand + credit a.most (Some gives.node) ≤ credit a.most (Some v) + 1
         by None h ends =
             let short = node-shorter a.built.kind (plain_of a.built) (on-leftmost a.built on) (on-some a.built on) v gives.picked
             ns gives.node Anything gives.gives in
@@ -187,10 +189,10 @@ module _ (a : AutomatonView) (on : reads_on a.built ≡ true) (chains : List (Li
             (has-bytes a on chains q is refl v cursor.at here given gives) dead a.most
 
     -- and was before it was given
-    tried-paid : (a.most ≡ 1) ⊎ (a.most ≡ 2) → tried a q start v byte ≤ credit a.most (Some v) + a.most * in_hand byte
+    tried-paid : (a.most ≡ 1) ⊎ (a.most ≡ 2) → tried (scan_of a No false) v byte ≤ credit a.most (Some v) + a.most * in_hand byte
     tried-paid one_or_two = by byte
       where
-        by : (hand : Option ℕ) → tried a q start v hand ≤ credit a.most (Some v) + a.most * in_hand hand
+        by : (hand : Option ℕ) → tried (scan_of a No false) v hand ≤ credit a.most (Some v) + a.most * in_hand hand
         by None = omega arith
         by (Some b) =
             let paid = step-paid a.most a.built.kind (plain_of a.built) No (Some v) (plain_byte a.built.ignores_case b) one_or_two in
@@ -215,7 +217,7 @@ module _ (a : AutomatonView) (on : reads_on a.built ≡ true) (chains : List (Li
                 hand = stopped.stands.hand;
               };
               counted = counted-given (credit a.most (Some v)) (credit a.most (Some gives.node)) (a.most * in_hand byte) low base
-                  (tried a q start v byte) stopped.counted paid onward stopped.begun;
+                  (tried (scan_of a No false) v byte) stopped.counted paid onward stopped.begun;
               unread = stopped.unread;
               begun = (let b = stopped.begun in omega arith);
               ordered = (let r = given-rest in let h = here.inside in omega arith);

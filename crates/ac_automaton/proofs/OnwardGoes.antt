@@ -1,9 +1,122 @@
 -- A walk that reads each byte once goes on: by the next match of its chain, or by reading on.
-use Rattle.std.proofs.Common.{◌≡◌, ◌≤◌, ℕ, true, false, List, [], length, ap, sym, ◌∙◌, subst, Option, None, Some}
+use Rattle.std.proofs.Common.{◌≡◌, ◌≤◌, ℕ, List, [], length, ap, sym, ◌∙◌, subst, refl, arith, Option, None, Some}
 use Rattle.ac_automaton.specs.Util.{Counts, Occurrence, Span, Taped}
-use Rattle.ac_automaton.specs.Prelude.{AutomatonView, work_of}
-use Rattle.ac_automaton.specs.Onward.{GivesFrom, GivesThere, GoesOnward, HasGiven, HasStopped, IsLawful, IsOnward, IsOnwardIn, KeepsOnward, MayGive, MayGoOnward, MayReadOn, pending, ReadsOn, ReadsToStart, search_in, TakesNext}
+use Rattle.ac_automaton.specs.Prelude.{AutomatonView, Scan, work_of}
+use Rattle.ac_automaton.specs.Onward.{GivesFrom, GivesThere, GoesOnward, HasGiven, HasStopped, IsLawful, IsOnward, IsOnwardIn, KeepsOnward, MayFindOn, MayGive, MayGoOnward, MovesOnward, search_in, TakesNext, walk_of}
+use Rattle.ac_automaton.specs.Reads.{in_hand, MayRead, point, ReadsEnough, ReadsOn}
 use Rattle.ac_automaton.specs.declared.automaton.onward.Onward.{Onward}
+use Rattle.ac_automaton.proofs.OnwardReads.{may-onward, onward-on, onward-stops}
+
+-- a walk that has read on has read no more bytes than it has moved by
+pub moves-read : {A M : Type 0} {s : Scan} {end : ℕ} (old new : Onward A M) {tape new_tape : Taped} {counts new_counts : Counts}
+    → ReadsOn s end (point old.cursor old.byte tape counts) (point new.cursor new.byte new_tape new_counts)
+    → MovesOnward old counts new new_counts
+moves-read old new on = record {
+  onward = on.scans.further;
+  reads = (let r = on.scans.reads in let u = on.scans.unread in omega arith);
+}
+
+pub moves-then : {A M : Type 0} {old mid new : Onward A M} {counts mid_counts new_counts : Counts}
+    → MovesOnward old counts mid mid_counts → MovesOnward mid mid_counts new new_counts → MovesOnward old counts new new_counts
+moves-then one two = record {
+  onward = (let o = one.onward in let t = two.onward in omega arith);
+  reads = (let o = one.reads in let t = two.reads in let a = one.onward in let b = two.onward in omega arith);
+}
+
+-- one that stays where it is has moved by nothing
+pub moves-nowhere : {A M : Type 0} (old new : Onward A M) {counts : Counts} → new.cursor.at ≡ old.cursor.at → new.byte ≡ old.byte
+    → MovesOnward old counts new counts
+moves-nowhere old new at hand = let h = ap in_hand hand in record { onward = omega arith; reads = omega arith }
+
+module _ {A M : Type 0} {seen : A → AutomatonView} {old : Onward A M} (lawful : IsLawful seen old) where
+  -- a walk is lawful still where it stands elsewhere
+  pub keeps-lawful : {new : Onward A M} → KeepsOnward old new → IsLawful seen new
+  keeps-lawful keeps = subst (IsLawful seen) (sym keeps) (record {
+    past = lawful.past;
+    on = lawful.on;
+    starts = lawful.starts;
+    commits = lawful.commits;
+    skips = lawful.skips;
+    needle = lawful.needle;
+  })
+
+  -- it may read on
+  pub may-find-on : {tape : Taped} {end : ℕ} {counts : Counts} → MayFindOn seen old tape end counts
+      → MayRead (walk_of seen old) end (point old.cursor old.byte tape counts)
+  may-find-on {tape} {end} {counts} may =
+      may-onward (seen old.core.automaton.now) tape.bytes may.low end may.start may.inside refl may.onward
+
+  -- it has read on
+  module _ {new : Onward A M} (keeps : KeepsOnward old new) {tape new_tape : Taped} {end : ℕ} {counts new_counts : Counts}
+      (on : ReadsOn (walk_of seen old) end (point old.cursor old.byte tape counts) (point new.cursor new.byte new_tape new_counts)) where
+    -- with nothing in hand it may go on, and what it then gives it gives from where it was
+    module _ (none : new.byte ≡ None) where
+      onward-there : (low start : ℕ) → end ≤ length tape.bytes
+          → IsOnwardIn (seen old.core.automaton.now) tape low end start [] old.cursor old.byte counts
+          → IsOnward (seen old.core.automaton.now) (search_in seen old tape.bytes low end) start [] new.cursor new.byte
+          (work_of new_tape new_counts)
+      onward-there low start inside onward = onward-on (seen old.core.automaton.now) tape.bytes low end start inside refl onward on none
+
+      pub may-go-on : MayFindOn seen old tape end counts → MayFindOn seen new new_tape end new_counts
+      may-go-on may = record {
+        low = may.low;
+        start = may.start;
+        onward =
+            subst (λ (a : AutomatonView). IsOnwardIn a new_tape may.low end may.start [] new.cursor new.byte new_counts)
+            (sym (ap (λ (o : Onward A M). seen o.core.automaton.now) keeps))
+            (subst (λ (bs : List ℕ). IsOnward (seen old.core.automaton.now) (search_in seen old bs may.low end) may.start [] new.cursor
+            new.byte (work_of new_tape new_counts)) (sym on.bytes) (onward-there may.low may.start may.inside may.onward));
+        inside = subst (λ (bs : List ℕ). end ≤ length bs) (sym on.bytes) may.inside;
+      }
+
+      pub gives-on : end ≤ length tape.bytes → {found : Option Occurrence} (last : Onward A M) (last_tape : Taped) {last_counts : Counts}
+          → GivesFrom seen new new_tape end new_counts found last last_tape last_counts
+          → GivesFrom seen old tape end counts found last last_tape last_counts
+      gives-on inside {found} last last_tape {last_counts} gives low start onward =
+          subst (λ (o : Onward A M). Gives o tape.bytes) keeps (subst (Gives new) on.bytes (gives low start))
+          (onward-there low start inside onward)
+        where
+          Gives : Onward A M → List ℕ → Type 0
+          Gives o bs =
+              IsOnward (seen o.core.automaton.now) (search_in seen o bs low end) start [] new.cursor new.byte (work_of new_tape new_counts)
+              → HasGiven (seen o.core.automaton.now) o.core.commits.now.chains (search_in seen o bs low end) start found last.rest last.cursor
+              last.byte (work_of last_tape last_counts)
+
+    -- where it has read as far as it reads it may give what comes next, and gives that from where it was
+    module _ (enough : ReadsEnough (walk_of seen old) end (point new.cursor new.byte new_tape new_counts)) where
+      stopped : (low start : ℕ) → end ≤ length tape.bytes
+          → IsOnwardIn (seen old.core.automaton.now) tape low end start [] old.cursor old.byte counts
+          → HasStopped (seen old.core.automaton.now) (search_in seen old tape.bytes low end) start new.cursor new.byte
+          (work_of new_tape new_counts)
+      stopped low start inside onward =
+          onward-stops (seen old.core.automaton.now) tape.bytes low end start inside refl onward on
+          enough
+
+      pub may-give : MayFindOn seen old tape end counts → MayGive seen new
+      may-give may =
+          subst (MayGive seen) (sym keeps) (record {
+            lawful = record {
+              past = lawful.past;
+              on = lawful.on;
+              starts = lawful.starts;
+              commits = lawful.commits;
+              skips = lawful.skips;
+              needle = lawful.needle;
+            };
+            bytes = tape.bytes;
+            low = may.low;
+            end = end;
+            start = may.start;
+            work = work_of new_tape new_counts;
+            inside = may.inside;
+            stopped = stopped may.low may.start may.inside may.onward;
+          })
+
+      pub gives-there : end ≤ length tape.bytes → {found : Option Occurrence} (last : Onward A M) → GivesThere seen new found last
+          → GivesFrom seen old tape end counts found last new_tape new_counts
+      gives-there inside {found} last gives low start onward =
+          subst (λ (o : Onward A M). GivesThere seen o found last) keeps gives tape.bytes low end start (work_of new_tape new_counts) inside
+          (stopped low start inside onward)
 
 module _ {A M : Type 0} {seen : A → AutomatonView} {old known : Onward A M} {span : Span} {tape : Taped} {counts : Counts}
     (may : MayGoOnward seen old span tape counts) (same : known ≡ record old { rest = known.rest }) where
@@ -13,122 +126,25 @@ module _ {A M : Type 0} {seen : A → AutomatonView} {old known : Onward A M} {s
       subst (λ (o : Onward A M). GoesOnward seen old span tape counts (Some m) o tape counts) (sym same)
       (λ start onward. takes tape.bytes span.start span.end start (work_of tape counts) may.inside may.sound onward)
 
-  -- it is lawful still
-  pub goes-lawful : IsLawful seen known
-  goes-lawful = subst (IsLawful seen) (sym same) (record {
-    past = may.lawful.past;
-    on = may.lawful.on;
-    starts = may.lawful.starts;
-    commits = may.lawful.commits;
-    skips = may.lawful.skips;
-    needle = may.lawful.needle;
-  })
+  pub known-lawful : IsLawful seen known
+  known-lawful =
+      keeps-lawful may.lawful
+      (same ∙ ap (λ (o : Onward A M). record old { cursor = o.cursor; byte = o.byte; rest = known.rest; budget = o.budget }) (sym same))
 
-  -- or had none to give, and has given what comes next of its only pattern
-  pub goes-only : TakesNext seen old None known.rest → {found : Option Occurrence} (new : Onward A M) (new_tape : Taped)
-      {new_counts : Counts} → GivesFrom seen known tape span.end counts found new new_tape new_counts
-      → GoesOnward seen old span tape counts found new new_tape new_counts
-  goes-only takes {found} new new_tape {new_counts} gives start onward =
-      subst (λ (o : Onward A M). GivesFrom seen o tape span.end counts found new new_tape new_counts) same gives span.start start
-      (takes tape.bytes span.start span.end start (work_of tape counts) may.inside may.sound onward)
-
-  -- or has read on
-  module _ (takes : TakesNext seen old None known.rest) {read : Onward A M} (keeps : KeepsOnward known read) {new_tape : Taped}
-      {new_counts : Counts} (reads : ReadsOn (seen known.core.automaton.now) tape span.end known.cursor known.byte counts read.cursor read.byte
-      new_tape new_counts) where
-    abbrev moved : Onward A M
-    moved = record old { cursor = read.cursor; byte = read.byte; rest = read.rest; budget = read.budget }
-
-    read-is : read ≡ moved
-    read-is = keeps ∙ ap (λ (o : Onward A M). record o { cursor = read.cursor; byte = read.byte; rest = read.rest; budget = read.budget }) same
-
-    reads-so : ReadsOn (seen old.core.automaton.now) tape span.end old.cursor old.byte counts read.cursor read.byte new_tape new_counts
-    reads-so =
-        subst (λ (o : Onward A M). ReadsOn (seen o.core.automaton.now) tape span.end o.cursor o.byte counts read.cursor read.byte new_tape
-        new_counts) same reads
-
-    stopped : (start : ℕ)
-        → IsOnwardIn (seen old.core.automaton.now) tape span.start span.end start
-        (pending (seen old.core.automaton.now).built old.core.commits.now.chains old.rest) old.cursor old.byte counts
-        → HasStopped (seen old.core.automaton.now) (search_in seen old tape.bytes span.start span.end) start read.cursor read.byte
-        (work_of new_tape new_counts)
-    stopped start onward =
-        reads-so.stops span.start start
-        (takes tape.bytes span.start span.end start (work_of tape counts) may.inside may.sound onward)
-
-    -- then it may give what comes next
-    pub may-give : MayGive seen read
-    may-give =
-        subst (MayGive seen) (sym read-is) (record {
-          lawful = record { past = may.lawful.past; on = may.lawful.on; starts = may.lawful.starts; commits = may.lawful.commits; skips = may.lawful.skips; needle = may.lawful.needle };
-          bytes = tape.bytes;
-          low = span.start;
-          end = span.end;
-          start = may.start;
-          work = work_of new_tape new_counts;
-          inside = may.inside;
-          stopped = stopped may.start may.onward;
-        })
-
-    -- and has gone on once it has given that
-    pub goes-given : {found : Option Occurrence} (new : Onward A M) → GivesThere seen read found new
-        → GoesOnward seen old span tape counts found new new_tape new_counts
-    goes-given {found} new gives start onward =
-        subst (λ (o : Onward A M). GivesThere seen o found new) read-is gives tape.bytes span.start span.end start
-        (work_of new_tape new_counts) may.inside (stopped start onward)
-
--- a walk by a single pattern has read on as far as it reads, or to where its prefilter may find that
-module _ {A M : Type 0} {seen : A → AutomatonView} {old read : Onward A M} {tape : Taped} {end : ℕ} {counts : Counts} {new_tape : Taped}
-    {new_counts : Counts} (keeps : KeepsOnward old read) where
-  -- there it may read on
-  pub only-on : ReadsToStart seen old tape end counts true read new_tape new_counts
-      → MayReadOn (seen old.core.automaton.now) tape end old.cursor old.byte counts
-      → MayReadOn (seen read.core.automaton.now) new_tape end read.cursor read.byte new_counts
-  only-on reads may =
-      subst (λ (a : AutomatonView). MayReadOn a new_tape end read.cursor read.byte new_counts)
-      (sym (ap (λ (o : Onward A M). seen o.core.automaton.now) keeps))
-      (record {
-        low = may.low;
+  -- or had none to give: then it may find the next one
+  pub may-find-known : TakesNext seen old None known.rest → MayFindOn seen known tape span.end counts
+  may-find-known takes =
+      subst (λ (o : Onward A M). MayFindOn seen o tape span.end counts) (sym same) (record {
+        low = span.start;
         start = may.start;
-        onward =
-            subst (λ (bs : List ℕ). IsOnward (seen old.core.automaton.now) (search_in seen old bs may.low end) may.start [] read.cursor
-            read.byte (work_of new_tape new_counts)) (sym reads.bytes) (reads.reads may.low may.start may.onward);
-        on = may.on;
-        inside = subst (λ (bs : List ℕ). end ≤ length bs) (sym reads.bytes) may.inside;
+        onward = takes tape.bytes span.start span.end may.start (work_of tape counts) may.inside may.sound may.onward;
+        inside = may.inside;
       })
 
-  -- it has given what that has found
-  pub only-found : ReadsToStart seen old tape end counts true read new_tape new_counts → {found : Option Occurrence} (new : Onward A M)
-      {last_counts : Counts} → GivesFrom seen read new_tape end new_counts found new new_tape last_counts
-      → GivesFrom seen old tape end counts found new new_tape last_counts
-  only-found reads {found} new {last_counts} gives low start onward =
-      subst (λ (o : Onward A M). Gives o tape.bytes) keeps (subst (λ (bs : List ℕ). Gives read bs) reads.bytes (gives low start))
-      (reads.reads low start onward)
-    where
-      Gives : Onward A M → List ℕ → Type 0
-      Gives o bs =
-          IsOnward (seen o.core.automaton.now) (search_in seen o bs low end) start [] read.cursor read.byte (work_of new_tape new_counts)
-          → HasGiven (seen o.core.automaton.now) o.core.commits.now.chains (search_in seen o bs low end) start found new.rest new.cursor new.byte
-          (work_of new_tape last_counts)
-
-  module _ (reads : ReadsToStart seen old tape end counts false read new_tape new_counts) where
-    -- it may give what comes next
-    pub only-may : IsLawful seen old → MayReadOn (seen old.core.automaton.now) tape end old.cursor old.byte counts → MayGive seen read
-    only-may lawful may =
-        subst (MayGive seen) (sym keeps) (record {
-          lawful = record { past = lawful.past; on = lawful.on; starts = lawful.starts; commits = lawful.commits; skips = lawful.skips; needle = lawful.needle };
-          bytes = tape.bytes;
-          low = may.low;
-          end = end;
-          start = may.start;
-          work = work_of new_tape new_counts;
-          inside = may.inside;
-          stopped = reads.reads may.low may.start may.onward;
-        })
-
-    -- and has given it
-    pub only-given : end ≤ length tape.bytes → {found : Option Occurrence} (new : Onward A M) → GivesThere seen read found new
-        → GivesFrom seen old tape end counts found new new_tape new_counts
-    only-given inside {found} new gives low start onward =
-        subst (λ (o : Onward A M). GivesThere seen o found new) keeps gives tape.bytes low end start (work_of new_tape new_counts) inside
-        (reads.reads low start onward)
+  -- and has given it
+  pub goes-found : TakesNext seen old None known.rest → {found : Option Occurrence} (new : Onward A M) (new_tape : Taped)
+      {new_counts : Counts} → GivesFrom seen known tape span.end counts found new new_tape new_counts
+      → GoesOnward seen old span tape counts found new new_tape new_counts
+  goes-found takes {found} new new_tape {new_counts} gives start onward =
+      subst (λ (o : Onward A M). GivesFrom seen o tape span.end counts found new new_tape new_counts) same gives span.start start
+      (takes tape.bytes span.start span.end start (work_of tape counts) may.inside may.sound onward)

@@ -2,7 +2,7 @@
 use Rattle.std.proofs.Common.{◌≡◌, ℕ, ◌+◌, ◌-◌, ◌*◌, ◌<◌, ◌≤◌, Bool, true, false, List, [], ◌∷◌, length, refl, ap, sym, ◌∙◌, subst, arith, Option, None, Some, rules}
 use Rattle.std.specs.Option.{is_some}
 use Rattle.std.proofs.lemmas.Bool.{false≢true}
-use Rattle.ac_automaton.specs.Util.{Counts, credit, from, IsNeedleMatch, may_skip, No, Node, Occurrence, Occurs, one_more_call, participates, pick, reached, Search, search_over, text}
+use Rattle.ac_automaton.specs.Util.{Counts, credit, from, IsNeedleMatch, may_skip, No, Node, Occurrence, Occurs, one_more_call, participates, pick, reached, Search, search_over, Standard, text}
 use Rattle.ac_util.specs.Prefilters.Skip.{Needle}
 use Rattle.ac_util.specs.Commits.{IsPickIn}
 use Rattle.ac_util.proofs.AtStart.{pick-rest}
@@ -18,7 +18,7 @@ use Rattle.ac_automaton.specs.Onward.{HasGiven, IsCounted, IsOnward}
 use Rattle.ac_automaton.specs.declared.automaton.commits.ChainMatch.{ChainMatch}
 use Rattle.ac_automaton.specs.declared.automaton.onward.ChainRest.{ChainRest}
 use Rattle.ac_automaton.proofs.FindSkipping.{one-takes_part}
-use Rattle.ac_automaton.proofs.OnwardSteps.{on-leftmost, on-some}
+use Rattle.ac_automaton.proofs.OnwardLists.{on-leftmost, on-some}
 
 module _ (a : AutomatonView) (on : reads_on a.built ≡ true) {needle : List ℕ} (skips : Skips a.wants_prefilter a.built (Needle needle))
     (chains : List (List ChainMatch)) (bytes : List ℕ) (low end start : ℕ) (inside : end ≤ length bytes) where
@@ -164,6 +164,13 @@ module _ (a : AutomatonView) (on : reads_on a.built ≡ true) {needle : List ℕ
               },
             );
           }
+
+-- the match of a needle ends no earlier than where the search for it began
+pub needle-after : (needle bytes : List ℕ) {at : ℕ} (end : ℕ) {r : Option Occurrence} → IsNeedleMatch needle bytes at end r
+    → {m : Occurrence} → r ≡ Some m → at ≤ m.end
+needle-after needle bytes {at} end found {m} is =
+    let occurs = pick-Occurs Standard (search_over false (needle ∷ []) bytes at end) m (found Standard ∙ is) in
+    let from = occurs.from_low in let long = occurs.as_long in omega arith
 
 -- so it has given what its prefilter answers
 pub needle-gives : {a : AutomatonView} → reads_on a.built ≡ true → {needle : List ℕ} → Skips a.wants_prefilter a.built (Needle needle)

@@ -1,135 +1,104 @@
--- A walk that reads each byte once reads on a piece at a time.
-use Rattle.std.proofs.Common.{◌≡◌, ◌⊎◌, ℕ, ◌+◌, ◌<◌, ◌≤◌, Bool, true, false, List, [], length, refl, ap, sym, ◌∙◌, subst, arith, IfSome, Option, None, Some, MatchOption}
-use Rattle.std.specs.Option.{is_some}
+-- A walk that reads each byte once reads on: where it stands then, and what it has counted.
+use Rattle.std.proofs.Common.{◌≡◌, ◌⊎◌, ℕ, ◌+◌, ◌-◌, ◌*◌, ◌<◌, ◌≤◌, false, List, [], length, slice_index, refl, ap, sym, ◌∙◌, subst, inl, inr, arith, IfSome, Option, None, Some, MatchOption}
 use Rattle.std.proofs.lemmas.Bool.{false≢true}
-use Rattle.std.proofs.lemmas.Option.{IfSome_then}
-use Rattle.ac_automaton.specs.Util.{Counts, more_looks, No, Node, Taped, usize_max}
-use Rattle.ac_automaton.specs.Prelude.{AutomatonView, Cursor, looks_of, search_of, work_of}
-use Rattle.ac_automaton.specs.Automata.{IsState, StepsTo, Tells}
-use Rattle.ac_automaton.specs.declared.automaton.onward.Onward.{Onward}
-use Rattle.ac_automaton.specs.Onward.{HasStopped, IsOnward, IsOnwardIn, MayReadOn, MayReadUpTo, ReadsFurther, ReadsOn, ReadsUpTo, TriesByte}
-use Rattle.ac_automaton.proofs.OnwardSteps.{comes-hand, comes-none, ComesOnward, may-then, reads-then, stops-end, stops-hand}
+use Rattle.ac_util.specs.Commits.{StandsAfter}
+use Rattle.ac_automaton.specs.Util.{No, Search}
+use Rattle.ac_automaton.specs.Prelude.{AutomatonView, plain_of, Scan, scan_of, search_of, step_of}
+use Rattle.ac_automaton.specs.Onward.{HasCounted, HasStopped, IsOnward, StandsBy}
+use Rattle.ac_automaton.specs.Reads.{Comes, MayRead, Point, ReadsEnough, ReadsOn, StopsAt, tried}
+use Rattle.ac_automaton.proofs.LedWalks.{IsSearchOf, led-after}
 
-module _ {a : AutomatonView} {tape : Taped} {end : ℕ} {cursor : Cursor} {hand : Option ℕ} {counts : Counts} where
-  -- it stands for some node, and the byte in hand is before the end
-  pub may-state : MayReadOn a tape end cursor hand counts → IsState (a.stands No) cursor.state
-  may-state may = (Some may.onward.node, may.onward.stands.there)
+-- so many for each of some, and for each of what came to them
+times-more : (m r s : ℕ) → r ≤ s → m * r + m * (s - r) ≡ m * s
+times-more m r s up = sym (let e : s ≡ r + (s - r) = omega arith in ap (λ (k : ℕ). m * k) e ∙ grind arith)
 
-  pub may-small : MayReadOn a tape end cursor hand counts → end ≤ usize_max → IfSome hand (λ (b : ℕ). cursor.at < usize_max)
-  may-small may small = IfSome_then hand may.onward.stands.hand (λ b h. let l = h.0 in omega arith)
+module _ (a : AutomatonView) (bytes : List ℕ) (low end start : ℕ) (inside : end ≤ length bytes) where
+  abbrev q : Search
+  q = search_of a.built No bytes low end
 
-  -- a walk with nothing in hand has come to where it is
-  pub comes-here : hand ≡ None → ComesOnward a tape end cursor hand counts cursor tape counts
-  comes-here none = comes-none none refl refl
+  abbrev s : Scan
+  s = scan_of a No false
 
-  -- it has tried its byte, which led on
-  pub comes-tried : {here : Cursor} {byte : Option ℕ} {new_counts : Counts} → end ≤ length tape.bytes
-      → TriesByte a cursor hand counts true here byte new_counts → byte ≡ None
-      → ComesOnward a tape end cursor hand counts here tape new_counts
-  comes-tried {here} {byte} {new_counts} inside tries none = record {
-    bytes = refl;
-    along = λ low start onward.
-        subst (λ (b : Option ℕ). IsOnward a (search_of a.built No tape.bytes low end) start [] here b (work_of tape new_counts)) none
-        (tries tape low end start inside onward);
+  -- a walk that has come to a point may read on there
+  pub may-onward : {p : Point} → p.bytes ≡ bytes → IsOnward a q start [] p.cursor p.hand p.work → MayRead s end p
+  may-onward {p} same onward = record {
+    alive = (onward.node, onward.stands.there);
+    hand = subst (λ (bs : List ℕ). IfSome p.hand (λ b. (p.cursor.at < end) × (b ≡ slice_index bs p.cursor.at))) (sym same) onward.stands.hand;
+    unread = onward.unread;
+    inside = (let l = ap (length {A = ℕ}) same in omega arith);
   }
 
-  -- there it may read on
-  pub may-tried : {here : Cursor} {byte : Option ℕ} {new_counts : Counts} → MayReadOn a tape end cursor hand counts
-      → TriesByte a cursor hand counts true here byte new_counts → byte ≡ None → MayReadUpTo a tape end here new_counts
-  may-tried may tries none = may-then may (comes-tried may.inside tries none)
+  module _ {p r : Point} (same : p.bytes ≡ bytes) (onward : IsOnward a q start [] p.cursor p.hand p.work) (on : ReadsOn s end p r) where
+    abbrev comes : Comes s p onward.node r
+    comes = on.comes onward.node onward.stands.there
 
-  -- and has read on what it reads there
-  pub reads-tried : {here new_cursor : Cursor} {byte new_byte : Option ℕ} {counts_here new_counts : Counts} {new_tape : Taped}
-      → end ≤ length tape.bytes → TriesByte a cursor hand counts true here byte counts_here → byte ≡ None
-      → ReadsUpTo a tape end here counts_here new_cursor new_byte new_tape new_counts
-      → ReadsOn a tape end cursor hand counts new_cursor new_byte new_tape new_counts
-  reads-tried inside tries none reads = reads-then inside (comes-tried inside tries none) reads
-
-  -- or to the dead node, where it reads on no further
-  pub stops-tried : {here : Cursor} {byte : Option ℕ} {new_counts : Counts} → end ≤ length tape.bytes
-      → TriesByte a cursor hand counts false here byte new_counts → ReadsOn a tape end cursor hand counts here byte tape new_counts
-  stops-tried inside tries = record { bytes = refl; stops = λ low start onward. tries tape low end start inside onward }
-
-  module _ (inside : end ≤ length tape.bytes) {here : Cursor} {tape_here : Taped} {counts_here : Counts}
-      (comes : ComesOnward a tape end cursor hand counts here tape_here counts_here) where
-    -- where it has come to it may read on
-    pub may-further : MayReadOn a tape end cursor hand counts → MayReadUpTo a tape_here end here counts_here
-    may-further may = record {
-      low = may.low;
-      end = end;
-      start = may.start;
-      onward =
-          subst (λ (bs : List ℕ). IsOnward a (search_of a.built No bs may.low end) may.start [] here None (work_of tape_here counts_here))
-          (sym comes.bytes) (comes.along may.low may.start may.onward);
-      on = may.on;
+    is-search : IsSearchOf a.built p.bytes end 0 q
+    is-search = record {
+      is = record { free = refl; ordered = onward.ordered; inside = inside; same = refl };
+      cases = refl;
       within = omega arith;
-      inside = subst (λ (bs : List ℕ). end ≤ length bs) (sym comes.bytes) inside;
+      same = λ k before.
+          ap (slice_index bytes) (let e : 0 + k ≡ k = omega arith in e) ∙ ap (λ (bs : List ℕ). slice_index bs k) (sym same);
     }
 
-    -- it reads on no further at the end of the span
-    pub stops-there : end ≤ here.at → {byte : Option ℕ} → byte ≡ None → ReadsOn a tape end cursor hand counts here byte tape_here counts_here
-    stops-there over none =
-        subst (λ (b : Option ℕ). ReadsOn a tape end cursor hand counts here b tape_here counts_here) (sym none)
-        (record { bytes = comes.bytes; stops = λ low start onward. stops-end (comes.along low start onward) over })
+    within : r.cursor.at ≤ end
+    within = (let i = onward.stands.after.inside in on.within i)
 
-    -- it has read on by a piece
-    module _ {new_cursor : Cursor} {byte : Option ℕ} {new_tape : Taped} {new_counts : Counts}
-        (reads : ReadsFurther a tape_here end here counts_here new_cursor byte new_tape new_counts) where
-      abbrev Then : List ℕ → ℕ → ℕ → Option ℕ → Type 0
-      Then bs low start b =
-          MatchOption b
-          (IsOnward a (search_of a.built No bs low end) start [] new_cursor None (work_of new_tape new_counts))
-          (λ x. HasStopped a (search_of a.built No bs low end) start new_cursor (Some x) (work_of new_tape new_counts))
+    stands : StandsBy a q start [] r.cursor r.hand comes.node
+    stands = let f = on.scans.onward in let w = within in record {
+      there = comes.there;
+      after = subst (λ (k : ℕ). StandsAfter a.built.kind (plain_of a.built) q [] comes.node k)
+          (let e : 0 + (p.cursor.at + (r.cursor.at - p.cursor.at)) ≡ r.cursor.at = omega arith in e)
+          (led-after a false is-search [] onward.node p.cursor.at
+          (subst (λ (k : ℕ). StandsAfter a.built.kind (plain_of a.built) q [] onward.node k)
+          (let e : p.cursor.at ≡ 0 + p.cursor.at = omega arith in e) onward.stands.after)
+          (r.cursor.at - p.cursor.at) comes.node (omega arith) comes.leads);
+      hand = subst (λ (bs : List ℕ). IfSome r.hand (λ b. (r.cursor.at < end) × (b ≡ slice_index bs r.cursor.at))) same on.hand;
+    }
 
-      reads-so : (low start : ℕ) → IsOnwardIn a tape low end start [] cursor hand counts → Then tape.bytes low start byte
-      reads-so low start onward =
-          subst (λ (bs : List ℕ). IsOnward a (search_of a.built No bs low end) start [] here None (work_of tape_here counts_here)
-          → Then bs low start byte) comes.bytes
-          (λ there. reads.reads low end start (omega arith) (subst (λ (bs : List ℕ). end ≤ length bs) (sym comes.bytes) inside) there)
-          (comes.along low start onward)
+    counted : HasCounted a q start r.cursor r.hand comes.node (tried s comes.node r.hand) r.work.counts
+    counted =
+        let c = onward.counted in let n = on.scans in let g = on.scans.grows in let b = onward.begun in
+        let o = onward.stands.after.within in let f = n.further in let u = n.unread in
+        record {
+          reads = (let k = c.reads in let l = n.reads in omega arith);
+          whole = λ none. (let gc = g.calls in let z : p.work.counts.calls ≡ 0 = omega arith in let k = c.whole z in
+              let l = n.counted (none ∙ sym z) in omega arith);
+          calls = (let k = c.calls in let l = n.calls in omega arith);
+          quiet = λ not. n.quiet not ∙ c.quiet not;
+          looked = (let k = c.looked in let l = g.looks in let m = g.reads in omega arith);
+          paid = (let k = c.paid in let l = comes.paid in let m = times-more a.most p.work.counts.reads r.work.counts.reads g.reads in
+              omega arith);
+        }
 
-      pub comes-further : is_some byte ≡ false → ComesOnward a tape end cursor hand counts new_cursor new_tape new_counts
-      comes-further none = record {
-        bytes = reads.bytes ∙ comes.bytes;
-        along = λ low start onward. by low start byte none (reads-so low start onward);
-      }
-        where
-          by : (low start : ℕ) (b : Option ℕ) → is_some b ≡ false → Then tape.bytes low start b
-              → IsOnward a (search_of a.built No tape.bytes low end) start [] new_cursor None (work_of new_tape new_counts)
-          by low start None e there = there
-          by low start (Some x) e there = absurd (false≢true (sym e))
+    -- with nothing in hand it is on its way
+    pub onward-on : r.hand ≡ None → IsOnward a q start [] r.cursor r.hand r.work
+    onward-on none = record {
+      node = comes.node;
+      stands = stands;
+      counted =
+          subst (λ (k : ℕ). HasCounted a q start r.cursor r.hand comes.node k r.work.counts) (ap (tried s comes.node) none) counted;
+      unread = on.scans.unread;
+      begun = onward.begun;
+      ordered = onward.ordered;
+    }
 
-      pub stops-further : is_some byte ≡ true → ReadsOn a tape end cursor hand counts new_cursor byte new_tape new_counts
-      stops-further some = record {
-        bytes = reads.bytes ∙ comes.bytes;
-        stops = λ low start onward. by low start byte some (reads-so low start onward);
-      }
-        where
-          by : (low start : ℕ) (b : Option ℕ) → is_some b ≡ true → Then tape.bytes low start b
-              → HasStopped a (search_of a.built No tape.bytes low end) start new_cursor b (work_of new_tape new_counts)
-          by low start None e there = absurd (false≢true e)
-          by low start (Some x) e there = there
-
--- the automaton of a walk that was changed
-pub seen-same : {A M : Type 0} (seen : A → AutomatonView) (new moved : Onward A M) → new ≡ moved
-    → seen new.core.automaton.now ≡ seen moved.core.automaton.now
-seen-same {A} {M} seen new moved same = ap (λ (o : Onward A M). seen o.core.automaton.now) same
-
--- the byte in hand is tried, by the state to which it leads
-module _ {a : AutomatonView} {cursor : Cursor} {hand : Option ℕ} {counts : Counts} (one_or_two : (a.most ≡ 1) ⊎ (a.most ≡ 2)) {byte : ℕ} (next : ℕ) (is : hand ≡ Some byte) {new_counts : Counts}
-    (looks-so : (u : Node) → a.stands No cursor.state u → new_counts ≡ more_looks (looks_of a.most a.built No u byte) counts)
-    (steps : StepsTo a No cursor.state byte next) (dead : Bool) (tells : Tells a next dead (λ u. u ≡ None)) where
-  pub tries-on : dead ≡ false → TriesByte a cursor hand counts true (record { state = next; at = cursor.at + 1 }) None new_counts
-  tries-on alive tape low end start inside onward =
-      (comes-hand {tape = tape} {end = end} {counts = counts} one_or_two inside next is looks-so steps dead tells alive refl refl).along
-      low start onward
-
-  pub tries-dead : dead ≡ true → TriesByte a cursor hand counts false cursor hand new_counts
-  tries-dead gone tape low end start inside onward =
-      (stops-hand {tape = tape} {end = end} {counts = counts} one_or_two inside next is looks-so steps dead tells gone).stops
-      low start onward
-
--- without one it stands where it stood
-pub tries-none : {a : AutomatonView} {cursor : Cursor} {hand : Option ℕ} {counts : Counts}
-    → TriesByte a cursor hand counts true cursor hand counts
-tries-none tape low end start inside onward = onward
+    -- where it has read as far as it reads, it has stopped
+    pub onward-stops : ReadsEnough s end r → HasStopped a q start r.cursor r.hand r.work
+    onward-stops enough = record {
+      node = comes.node;
+      stands = stands;
+      over = by r.hand comes.dead enough;
+      counted = counted;
+      unread = on.scans.unread;
+      begun = onward.begun;
+    }
+      where
+        by : (h : Option ℕ) → IfSome h (λ b. step_of a.built No (Some comes.node) b ≡ None)
+            → (h ≡ None → (end ≤ r.cursor.at) ⊎ StopsAt s r.cursor.state)
+            → MatchOption h (r.cursor.at ≡ end) (λ b. step_of a.built No (Some comes.node) b ≡ None)
+        by None dead enough = elim (enough refl) [
+          | inl over ↦ (let w = within in omega arith)
+          | inr stops ↦ absurd (false≢true stops.0)
+        ]
+        by (Some b) dead enough = dead

@@ -17,7 +17,7 @@ use Rattle.ac_automaton.specs.declared.automaton.commits.ChainMatch.{ChainMatch}
 use Rattle.ac_automaton.specs.declared.automaton.onward.ChainRest.{ChainRest}
 use Rattle.ac_automaton.specs.declared.automaton.onward.Given.{Given}
 use Rattle.ac_automaton.proofs.Heads.{plain_length}
-use Rattle.ac_automaton.proofs.OnwardSteps.{on-leftmost, on-some}
+use Rattle.ac_automaton.proofs.OnwardLists.{on-leftmost, on-some}
 
 -- the rest of a chain of which nothing was given
 pub pending-whole : (built : Built) (chains : List (List ChainMatch)) (base : ℕ) (chain : Option ℕ)

@@ -1,23 +1,13 @@
--- A scan that reads byte by byte: where its automaton stands with one byte more, what it has read and looked at, and that
+-- A scan of a text: where its automaton stands with one byte more, what it has read and looked at, and that
 -- each look is paid for.
-use Rattle.std.proofs.Common.{◌≡◌, ◌≢◌, ◌⊎◌, ℕ, ◌+◌, ◌-◌, ◌*◌, ◌<◌, ◌≤◌, [], length, slice_index, inl, inr, ap, subst, ◌∙◌, arith, Bool, Some, None, rules}
+use Rattle.std.proofs.Common.{◌≡◌, ℕ, ◌+◌, ◌-◌, ◌*◌, ◌<◌, ◌≤◌, [], length, slice_index, inl, inr, ap, subst, ◌∙◌, arith, Bool, Some, rules}
 use Rattle.std.proofs.lemmas.Bool.{cases_lt}
 use Rattle.std.proofs.lemmas.Grind.{common_steps}
-use Rattle.ac_util.specs.declared.search.Anchored.{Anchored}
-use Rattle.ac_automaton.specs.Util.{Built, Counts, credit, may_skip, more_looks, No, Node, one_more_read, reached, Search, text, Yes}
+use Rattle.ac_automaton.specs.Util.{Counts, credit, may_skip, Search}
 use Rattle.ac_util.proofs.Failures.{depth-reached}
 use Rattle.ac_util.proofs.OneLonger.{step-longer}
 use Rattle.ac_util.proofs.Spans.{text_length}
-use Rattle.ac_util.proofs.SearchLoop.{step-paid}
-use Rattle.ac_automaton.specs.Prelude.{Cursor, FitsIn, Grows, HasRead, IsAlive, IsAt, looks_of, most_looks, node, NoMatchBetween, PassesNoMatch, plain_of, Scan, ScansTo, ScanText, search_through, step_of, Work}
-
--- a step's looks are paid by what was saved and what the byte brings; an anchored one saves nothing and looks
--- once
-step-within : (most : ℕ) (built : Built) (a : Anchored) (u : Node) (byte : ℕ) → (most ≡ 1) ⊎ (most ≡ 2)
-    → looks_of most built a u byte + credit (most_looks a most) (step_of built a u byte)
-    ≤ credit (most_looks a most) u + most_looks a most
-step-within most built No u byte one_or_two = search (rules, step-paid)
-step-within most built Yes u byte one_or_two = grind (arith, common_steps)
+use Rattle.ac_automaton.specs.Prelude.{FitsIn, Grows, HasRead, IsAlive, IsAt, most_looks, node, Scan, ScansTo, ScanText, search_through, step_of, Work}
 
 -- what holds as far as n and one place on holds as far as there
 pub below_next : (n : ℕ) (P : ℕ → Type 0) → ((k : ℕ) → k < n → P k) → P n → (k : ℕ) → k < n + 1 → P k
@@ -30,11 +20,6 @@ grows-trans first second = grind (arith, common_steps)
 -- so has what stays as it is
 pub grows-same : (counts : Counts) → Grows counts counts
 grows-same counts = grind (arith, common_steps)
-
--- and what counts a byte that was read, and its looks
-pub grows-byte : {counts read new_counts : Counts} {n : ℕ} → read ≡ one_more_read counts → new_counts ≡ more_looks n read → 1 ≤ n
-    → Grows counts new_counts
-grows-byte counted looked one = grind (arith, common_steps)
 
 -- a search that has read nothing
 pub read-nothing : (most : ℕ) (skips : Bool) (start end : ℕ) (work : Work)
@@ -100,35 +85,3 @@ module _ {s : Scan} {t : ScanText} where
             work_between.counts.looks new_work.counts.looks (credit (most_looks s.anchored s.most) (node s t from)) (credit (most_looks s.anchored s.most)
             (node s t between)) (credit (most_looks s.anchored s.most) (node s t to)) (one.grows.reads) (two.grows.reads) one.paid two.paid,
       )
-
-  -- a scan that has passed over no match goes on from where nothing is found
-  pub passes-on : {from : ℕ} {work new_work work_then : Work} {cursor then_cursor : Cursor}
-      → PassesNoMatch s t from work cursor new_work
-      → NoMatchBetween s t from (cursor.at + 1)
-      → PassesNoMatch s t cursor.at new_work then_cursor work_then
-      → PassesNoMatch s t from work then_cursor work_then
-  passes-on {cursor = cursor} one none two = grind (arith, common_steps, scans-on one.scans two.scans)
-
-module _ {s : Scan} {t : ScanText} {cursor : Cursor} (alive : IsAlive s t cursor) where
-  -- and one place further where it stands once a byte is followed
-  pub at-next : {next byte : ℕ} → byte ≡ slice_index t.bytes cursor.at → cursor.at < length t.bytes
-      → s.stands next (step_of s.built s.anchored (node s t cursor.at) byte)
-      → IsAt s t next (cursor.at + 1)
-  at-next {next} {byte} is room there =
-      record {
-        there = subst (s.stands next) (node-step s t cursor.at byte alive.is_at.onward room is) there;
-        onward = (let o = alive.is_at.onward in omega arith);
-        inside = omega arith;
-        alive = λ k from below. below_next cursor.at
-            (λ n. t.start ≤ n → reached s.built.kind (plain_of s.built) s.anchored
-            (text (record (search_through s t) { high = n })) ≢ None)
-            (λ n up low. alive.is_at.alive n low up) (λ _. alive.living) k (omega arith) from;
-      }
-
-  -- a byte that is read and followed is a scan
-  pub scans-byte : {byte : ℕ} {work new_work : Work} {read : Counts} → (s.most ≡ 1) ⊎ (s.most ≡ 2)
-      → work.place ≤ cursor.at → byte ≡ slice_index t.bytes cursor.at → cursor.at < length t.bytes
-      → new_work.place ≡ cursor.at + 1 → read ≡ one_more_read work.counts
-      → new_work.counts ≡ more_looks (looks_of s.most s.built s.anchored (node s t cursor.at) byte) read
-      → ScansTo s t cursor.at work (cursor.at + 1) new_work
-  scans-byte {byte} {work} {new_work} one_or_two unread is room there counted looked = search (rules, node-step, step-within)

@@ -1,19 +1,22 @@
 -- Bytes with which no pattern begins don't lead away from the start, where nothing is found either if no pattern is
 -- empty.
-use Rattle.std.proofs.lemmas.Grind.{common_steps}
-use Rattle.std.proofs.Common.{rules, ◌≡◌, ℕ, zero, suc, ◌+◌, ◌-◌, ◌<◌, ◌≤◌, Bool, true, false, List, [], ◌∷◌, length, map, refl, ap, sym, ◌∙◌, subst, inl, inr, arith, Some, None, nat_eq, slice_index}
+use Rattle.std.proofs.Common.{rules, ◌≡◌, ℕ, zero, suc, ◌+◌, ◌-◌, ◌<◌, ◌≤◌, Bool, true, false, List, [], ◌∷◌, map, refl, ap, sym, ◌∙◌, subst, arith, Option, Some, None, nat_eq, slice_index}
 use Rattle.std.specs.List.{list_any, starts_with}
-use Rattle.std.proofs.lemmas.Bool.{or_right, false≢true, false_from_ne_true, cases_lt}
+use Rattle.std.specs.Option.{is_some}
+use Rattle.std.proofs.lemmas.Bool.{or_right, false≢true, false_from_ne_true}
 use Rattle.ac_util.specs.declared.search.Anchored.{Anchored}
-use Rattle.ac_automaton.specs.Util.{begins_with, begins_with_pattern, BeginWith, Built, Counts, is_empty, is_one_of, No, Node, one_more_call, pattern_of, plain, plain_byte, Taped}
+use Rattle.ac_automaton.specs.Util.{begins_with, begins_with_pattern, BeginWith, Built, Counts, is_empty, is_one_of, may_skip, No, Node, one_more_call, pattern_of, plain, plain_byte}
 use Rattle.memchr.specs.Find.{Nowhere, Passes}
 use Rattle.ac_util.proofs.Found.{matches-nil}
 use Rattle.ac_util.proofs.NodeCount.{any_passes}
 use Rattle.ac_util.proofs.Participants.{equal_to-none_begins}
 use Rattle.ac_util.proofs.Reached.{step-nil}
-use Rattle.ac_automaton.specs.Prelude.{Advances, Cursor, IsAlive, matches_of, MayAdvance, node, PassesNoMatch, plain_of, Scan, ScannerView, ScanText, SkipsTo, StaysAtStart, step_of, Work}
-use Rattle.ac_automaton.proofs.ReadAhead.{along-passed, along-start}
-use Rattle.ac_automaton.proofs.ReadOn.{grows-trans, node-step}
+use Rattle.ac_automaton.specs.Prelude.{matches_of, plain_of, Scan, search_of, SkipsTo, step_of}
+use Rattle.ac_automaton.specs.Reads.{Comes, HasScanned, in_hand, IsAtStart, led, MayRead, Point, read_to, ReadsFurther, ReadsOn, worth}
+use Rattle.ac_automaton.specs.declared.automaton.scan.Dead.{Dead}
+use Rattle.ac_automaton.proofs.Led.{led-byte, led-none}
+use Rattle.ac_automaton.proofs.ReadingOn.{comes-then, nothing-scanned}
+use Rattle.ac_automaton.proofs.ReadOn.{grows-trans}
 
 -- where a plain pattern begins with a plain byte, some pattern begins with the byte
 begins-from_plain : (ignores_case : Bool) (b : ℕ) (patterns : List (List ℕ)) (n : ℕ)
@@ -51,108 +54,128 @@ pub none-there : (s : Scan) → s.anchored ≡ No → list_any is_empty s.built.
     → matches_of s.built s.anchored u ≡ []
 none-there s free some start = search (rules, matches-start)
 
--- a scan that skips to first bytes
-module _ {s : Scan} {bytes : List ℕ} (by : SkipsTo s bytes) where
-  begin : BeginWith bytes s.built.ignores_case s.built.patterns
-  begin = by.skips.serves
+-- a scan at its start calls its prefilter, which leads it to a place over bytes with which no pattern begins
+module _ {s : Scan} {first : List ℕ} (by : SkipsTo s first) {end : ℕ} {p : Point} (may : MayRead s end p) (empty : p.hand ≡ None)
+    (at-start : IsAtStart s p.cursor.state) {to : ℕ} (onward : p.cursor.at ≤ to) (up : to ≤ end)
+    (none : Nowhere (Passes (is_one_of first) p.bytes) p.cursor.at to) {counts : Counts} (called : counts ≡ one_more_call p.work.counts)
+  where
+    begin : BeginWith first s.built.ignores_case s.built.patterns
+    begin = by.skips.serves
 
-  -- over bytes with which no pattern begins it stays there
-  module _ (t : ScanText) (at to : ℕ) (onward : t.start ≤ at) (inside : to ≤ length t.bytes)
-      (none : Nowhere (Passes (is_one_of bytes) t.bytes) at to) (there : node s t at ≡ Some []) where
-    stays-for : (n : ℕ) → at + n ≤ to → node s t (at + n) ≡ Some []
-    stays-for zero up = ap (node s t) (omega arith) ∙ there
-    stays-for (suc n) up =
-        let here = stays-for n (omega arith) in
-        let byte = slice_index t.bytes (at + n) in
+    -- the point to which it has led
+    abbrev pub skipped : Point
+    skipped = record {
+      bytes = p.bytes;
+      cursor = record { state = p.cursor.state; at = to };
+      hand = None;
+      work = record { place = p.work.place; counts = counts };
+    }
+
+    -- over such bytes it stays at its start
+    led-start : (n : ℕ) → p.cursor.at + n ≤ to → led s p.bytes (Some []) p.cursor.at n ≡ Some []
+    led-start zero below = led-none s p.bytes (Some []) p.cursor.at 0 refl
+    led-start (suc n) below =
+        let byte = slice_index p.bytes (p.cursor.at + n) in
         let other = false_from_ne_true (list_any (begins_with s.built.ignores_case byte) s.built.patterns)
-        (λ f. none (at + n) (omega arith) (omega arith) (begin.begins byte f)) in
-        ap (node s t) (let e : at + suc n ≡ at + n + 1 = omega arith in e)
-        ∙ sym (node-step s t (at + n) byte (omega arith) (omega arith) refl)
-        ∙ ap (λ (u : Node). step_of s.built s.anchored u byte) here
+        (λ f. none (p.cursor.at + n) (omega arith) (omega arith) (begin.begins byte f)) in
+        ap (led s p.bytes (Some []) p.cursor.at) (let e : suc n ≡ n + 1 = omega arith in e)
+        ∙ led-byte s p.bytes (Some []) p.cursor.at n byte refl
+        ∙ ap (λ (u : Node). step_of s.built s.anchored u byte) (led-start n (omega arith))
         ∙ ap (λ (a : Anchored). step_of s.built a (Some []) byte) by.unanchored
         ∙ step-stays s.built begin.some byte other
 
-    pub stays : StaysAtStart s t at to
-    stays k low high = ap (node s t) (omega arith) ∙ stays-for (k - at) (omega arith)
+    node-is : (v : List ℕ) → s.stands p.cursor.state (Some v) → v ≡ []
+    node-is v there = let same = at-start (Some v) there in cc
 
-  module _ {t : ScanText} {cursor : Cursor} {to : ℕ} (alive : IsAlive s t cursor) (inside : to ≤ length t.bytes)
-      (onward : cursor.at ≤ to) (stays : StaysAtStart s t cursor.at to) where
-    -- where it has skipped to the automaton stands too, and isn't dead
-    pub alive-skipped : IsAlive s t (record { state = cursor.state; at = to })
-    alive-skipped =
-        let here = stays cursor.at (omega arith) onward in
-        let there = stays to onward (omega arith) in
-        record {
-          is_at = record {
-            there = subst (s.stands cursor.state) (here ∙ sym there) alive.is_at.there;
-            onward = (let o = alive.is_at.onward in omega arith);
-            inside = inside;
-            alive = λ k from below. elim (cases_lt k cursor.at) [
-              | inl before ↦ alive.is_at.alive k from before
-              | inr beyond ↦ (λ dead.
-                  let start = stays k (omega arith) (omega arith) in
-                  let both : Some [] ≡ None = sym start ∙ dead in absurd (cc))
-            ];
-          };
-          living = λ dead. let both : Some [] ≡ None = sym there ∙ dead in absurd (cc);
-        }
+    calls : counts.calls ≡ p.work.counts.calls + 1
+    calls = ap (λ (c : Counts). c.calls) called
 
-    -- by one call of the prefilter: what it reads on from there was scanned from where it was
-    pub skipped-on : {place : ℕ} {counts new_counts : Counts} {then_cursor : Cursor} {new_work : Work}
-        → new_counts ≡ one_more_call counts → place ≤ cursor.at
-        → PassesNoMatch s t to (record { place = place; counts = new_counts }) then_cursor new_work
-        → new_work.counts.calls ≡ new_counts.calls → cursor.at < then_cursor.at
-        → PassesNoMatch s t cursor.at (record { place = place; counts = counts }) then_cursor new_work
-    skipped-on {place} {counts} {new_counts} {then_cursor} {new_work} called unread read uncalled moved =
-        search (rules, grows-trans, none-there)
+    reads : counts.reads ≡ p.work.counts.reads
+    reads = ap (λ (c : Counts). c.reads) called
 
--- a scanner whose automaton is at its start calls its prefilter, which leads it to a place over bytes with which no pattern
--- begins
-module _ {v : ScannerView} {bytes : List ℕ} (by : SkipsTo v.scan bytes) {tape : Taped} {cursor : Cursor}
-    (may : MayAdvance v tape cursor) (start : (u : Node) → v.scan.stands cursor.state u → u ≡ Some [])
-    {to : ℕ} (onward : cursor.at ≤ to) (within : to ≤ v.span.end)
-    (none : Nowhere (Passes (is_one_of bytes) tape.bytes) cursor.at to) where
-  abbrev there : Cursor
-  there = record { state = cursor.state; at = to }
+    looks : counts.looks ≡ p.work.counts.looks
+    looks = ap (λ (c : Counts). c.looks) called
 
-  -- what is known of a text with the bytes of the tape that has led to where it was
-  module _ (t : ScanText) (same : t.bytes ≡ tape.bytes) (alive : IsAlive v.scan t cursor) where
-    in-text : to ≤ length t.bytes
-    in-text = let long = ap (length {A = ℕ}) same in omega (arith, long, within, may.inside)
+    hand-none : in_hand p.hand ≡ 0
+    hand-none = ap in_hand empty
 
-    stays-there : StaysAtStart v.scan t cursor.at to
-    stays-there = grind (arith, common_steps, stays by t cursor.at to alive.is_at.onward)
+    -- so has it come there
+    comes-skipped : (v : List ℕ) → s.stands p.cursor.state (Some v) → Comes s p v skipped
+    comes-skipped v there =
+        subst (λ (u : List ℕ). s.stands p.cursor.state (Some u) → Comes s p u skipped) (sym (node-is v there)) (λ start. record {
+          node = [];
+          there = start;
+          leads = led-start (to - p.cursor.at) (omega arith);
+          none = λ t n some less.
+              none-there s by.unanchored begin.some (led-start n (omega arith));
+          paid = (let h = hand-none in let l = looks in let w = ap (worth s []) empty in omega arith);
+          dead = tt;
+        }) there
 
-    alive-there : IsAlive v.scan t there
-    alive-there = alive-skipped by alive in-text onward stays-there
+    may-skip : may_skip s.wants_prefilter (search_of s.built s.anchored [] 0 0) ≡ true
+    may-skip = ap (λ (a : Anchored). may_skip s.wants_prefilter (search_of s.built a [] 0 0)) by.unanchored ∙ ap is_some by.skips.built_so
 
-  -- there it may read on
-  pub may-skipped : to < v.span.end → MayAdvance v tape there
-  may-skipped before = search (rules, alive-there)
+    module _ {q : Point} (two : HasScanned s skipped q) (moved : p.cursor.at < read_to q) (uncalled : q.work.counts.calls ≡ counts.calls) where
+      scanned-skipped : HasScanned s p q
+      scanned-skipped =
+          let h = hand-none in let k = calls in let r = reads in let l = looks in let o = two.onward in let f = two.further in
+          record {
+            onward = omega arith;
+            further = omega arith;
+            grows = grows-trans (record { reads = omega arith; looks = omega arith; calls = omega arith }) two.grows;
+            forward = two.forward;
+            unread = two.unread;
+            told = λ moves. (let t = two.told moves in omega arith);
+            whole = λ same. absurd (omega arith);
+            counted = λ same. absurd (omega arith);
+            reads = (let n = two.reads in omega arith);
+            calls = omega arith;
+            quiet = λ not. absurd (false≢true (sym not ∙ may-skip));
+          }
 
-  module _ {counts new_counts : Counts} (called : new_counts ≡ one_more_call counts) where
-    -- and then it has read on from where it was
-    pub advances-skipped : {then_cursor : Cursor} {new_tape : Taped} {then_counts : Counts}
-        → Advances v there tape new_counts then_cursor new_tape then_counts → then_counts.calls ≡ new_counts.calls
-        → Advances v cursor tape counts then_cursor new_tape then_counts
-    advances-skipped advances uncalled =
-        let moved = advances.moved in
-        record {
-          bytes = advances.bytes;
-          moved = omega (arith, moved, onward);
-          within = advances.within;
-          passes = λ t same alive.
-              skipped-on by alive (in-text t same alive) onward (stays-there t same alive) called may.unread
-              (advances.passes t same (alive-there t same alive)) uncalled (omega (arith, moved, onward));
-        }
-
-    -- as it has where no pattern begins up to the end
-    pub skipped-to-end : cursor.at < to → Advances v cursor tape counts there tape new_counts
-    skipped-to-end moved = record {
-      bytes = refl;
-      moved = moved;
-      within = within;
-      passes = λ t same alive.
-          skipped-on by alive (in-text t same alive) onward (stays-there t same alive) called may.unread
-          (along-passed (along-start (alive-there t same alive) (omega (arith, may.unread, onward)))) refl moved;
+    -- where that is before the end it may read on there
+    pub may-skipped : to < end → MayRead s end skipped
+    may-skipped before = record {
+      alive = may.alive;
+      hand = tt;
+      unread = (let u = may.unread in let h = hand-none in omega arith);
+      inside = may.inside;
     }
+
+    -- what it reads there it has read from where it was
+    reads-skipped : {q : Point} → ReadsOn s end skipped q → to < read_to q → q.work.counts.calls ≡ counts.calls → ReadsOn s end p q
+    reads-skipped {q} two moved uncalled = record {
+      bytes = two.bytes;
+      within = λ h. two.within up;
+      scans = scanned-skipped two.scans (omega arith) uncalled;
+      hand = two.hand;
+      comes = λ v there.
+          let one = comes-skipped v there in
+          let r = reads in let g = two.scans.grows.reads in
+          comes-then one refl refl (two.comes one.node one.there) onward two.scans.onward (omega arith) g
+          (λ t m. none-there s by.unanchored begin.some (ap (λ (u : List ℕ). Some u) (node-is one.node one.there)));
+    }
+
+    pub piece-skipped : {dead : Option Dead} {q : Point} → ReadsFurther s end skipped dead q → to < end → to < read_to q
+        → q.work.counts.calls ≡ counts.calls → ReadsFurther s end p dead q
+    piece-skipped two before moved uncalled = record {
+      on = reads-skipped two.on moved uncalled;
+      moved = λ h none. let m = two.moved before none in omega arith;
+      gone = two.gone;
+    }
+
+    -- or it has come to the end
+    pub skipped-end : p.cursor.at < to → ReadsFurther s end p None skipped
+    skipped-end moved =
+        let h = hand-none in let u = may.unread in
+        record {
+          on = record {
+            bytes = refl;
+            within = λ w. up;
+            scans = scanned-skipped (nothing-scanned (omega arith)) (omega arith) refl;
+            hand = tt;
+            comes = comes-skipped;
+          };
+          moved = λ before n. moved;
+          gone = tt;
+        }

@@ -1,6 +1,6 @@
 -- The search of a stream under Standard: it gives the first match of the state to which it has come, or has searched all that was
 -- read.
-use Rattle.std.proofs.Common.{◌≡◌, ◌≢◌, ◌⊎◌, cond, ℕ, zero, suc, ◌+◌, ◌-◌, ◌<◌, ◌≤◌, Bool, true, false, List, [], ◌∷◌, ◌++◌, length, length-append, slice_get, slice_index, inl, inr, refl, ap, sym, subst, ◌∙◌, arith, Option, Some, None, IfSome, MatchOption, option_map}
+use Rattle.std.proofs.Common.{◌≡◌, ◌⊎◌, cond, ℕ, zero, suc, ◌+◌, ◌-◌, ◌<◌, ◌≤◌, Bool, true, false, List, [], ◌∷◌, ◌++◌, length, length-append, slice_get, slice_index, inl, inr, refl, ap, sym, subst, ◌∙◌, arith, Option, Some, None, IfSome, option_map}
 use Rattle.std.proofs.lemmas.Bool.{cases_lt}
 use Rattle.std.proofs.lemmas.List.{append-nil}
 use Rattle.ac_util.specs.Prelude.{step}
@@ -17,12 +17,14 @@ use Rattle.ac_util.proofs.Walks.{pick-Occurs}
 use Rattle.ac_automaton.specs.Prelude.{AutomatonView, Cursor, Inside, IsStreaming, matches_of, node_at, Phase, place_of, plain_of, StandsPast, step_of, stream_from, Streaming}
 use Rattle.ac_automaton.specs.Onward.{first_given, IsRestBefore, pending}
 use Rattle.ac_automaton.specs.Streams.{streaming_by}
+use Rattle.ac_automaton.specs.Reads.{led, StopsAt}
+use Rattle.ac_automaton.specs.Scans.{scan_of}
 use Rattle.ac_automaton.specs.declared.automaton.commits.ChainMatch.{ChainMatch}
 use Rattle.ac_automaton.specs.declared.automaton.onward.ChainRest.{ChainRest}
 use Rattle.ac_automaton.specs.declared.automaton.onward.Given.{Given}
-use Rattle.ac_automaton.proofs.AliveSteps.{byte-is, node-is}
+use Rattle.ac_automaton.proofs.LedWalks.{byte-is, led-reached, node-is}
 use Rattle.ac_automaton.proofs.StreamKeeping.{settles-standard}
-use Rattle.ac_automaton.proofs.StreamReads.{at, begun-before, HoldsBack, IsReadOn, none-more, of-search, place, q, Settles, stands-here, stands-there, stops, u, within-buffer, within-bytes}
+use Rattle.ac_automaton.proofs.StreamReads.{at, begun-before, comes, hand-there, HoldsBack, IsReadOn, none-more, of-search, onward, place, q, read-enough, Settles, stands-here, stands-there, u, within-buffer, within-bytes}
 use Rattle.ac_automaton.proofs.StreamRefusals.{allowed-some}
 use Rattle.ac_automaton.proofs.StreamReserves.{most-back}
 
@@ -107,10 +109,15 @@ module _ (a : AutomatonView) {bytes : List ℕ} {given front kept : ℕ} {phase 
   -- no match was passed between
   quiet : (k : ℕ) → place a inv < k → k < at a inv on → matches_of a.built No (node k) ≡ []
   quiet k low high =
-      let same : k ≡ front + (k - front) = omega arith in
+      let n = k - place a inv in let o = onward a inv on in let w = within-buffer a inv on in
+      let same : k ≡ front + (i.at + n) = omega arith in
+      let rest : n + (there.at - i.at - n) ≡ there.at - i.at = omega arith in
       ap (λ (h : ℕ). matches_of a.built No (node h)) same
-      ∙ (stops a inv on).passes first front (q a inv []) (of-search a inv on []) (stands-here a inv on [] (none-more a inv))
-      (k - front) (omega arith) (omega arith)
+      ∙ ap (matches_of a.built No)
+      (led-reached a i.stops (of-search a inv on []) inv.past.node i.at (stands-here a inv on [] (none-more a inv)) n (there.at - i.at - n)
+      (u a inv on) (omega arith)
+      (ap (led (scan_of a No i.stops) on.shown (Some inv.past.node) i.at) rest ∙ (comes a inv on).leads))
+      ∙ (comes a inv on).none first n (omega arith) (omega arith)
 
   begun-place : i.begun ≤ place a inv
   begun-place = inv.read
@@ -134,7 +141,7 @@ module _ (a : AutomatonView) {bytes : List ℕ} {given front kept : ℕ} {phase 
         subst (λ (h : ℕ). picked h ≡ option_map (place_of a.built h) (slice_get ns 0)) back
         (picked-next k (omega arith) (omega arith) none ns (ap (λ (h : ℕ). matches_of a.built No (node h)) back ∙ node-there ∙ e))
     | inr same-place ↦
-        let f = (stops a inv on).comes.onward in let same : place a inv ≡ at a inv on = omega arith in
+        let f = onward a inv on in let same : place a inv ≡ at a inv on = omega arith in
         let none : picked (at a inv on) ≡ None = sym (ap picked same) ∙ none-here in
         let w = within-bytes a inv on in let b = begun-place in
         let nothing = none-found (at a inv on) (omega arith) w none ns (node-there ∙ e) in
@@ -144,7 +151,7 @@ module _ (a : AutomatonView) {bytes : List ℕ} {given front kept : ℕ} {phase 
       node-there : matches_of a.built No (node (at a inv on)) ≡ matches_of a.built No (Some (u a inv on))
       node-there =
           ap (matches_of a.built No)
-          (node-is a i.stops on.shown i.filled front (q a inv []) (of-search a inv on []) there.at (u a inv on)
+          (node-is a i.stops (of-search a inv on []) there.at (u a inv on)
           (stands-there a inv on [] (none-more a inv)))
 
   -- the node to which a byte leads
@@ -157,7 +164,7 @@ module _ (a : AutomatonView) {bytes : List ℕ} {given front kept : ℕ} {phase 
 
   module _ (lists : (u : Node) → a.stands No there.state u → a.listed there.state ≡ matches_of a.built No u) where
     lists-there : a.listed there.state ≡ matches_of a.built No (Some (u a inv on))
-    lists-there = lists (Some (u a inv on)) (stops a inv on).comes.stands
+    lists-there = lists (Some (u a inv on)) (comes a inv on).there
 
     -- a state with a match gives that
     module _ (n : ℕ) (ns : List ℕ) (listed : a.listed there.state ≡ n ∷ ns) where
@@ -195,7 +202,7 @@ module _ (a : AutomatonView) {bytes : List ℕ} {given front kept : ℕ} {phase 
       further = elim (cases_lt (place a inv) (at a inv on)) [
         | inl beyond ↦ beyond
         | inr same-place ↦
-            let f = (stops a inv on).comes.onward in let same : place a inv ≡ at a inv on = omega arith in
+            let f = onward a inv on in let same : place a inv ≡ at a inv on = omega arith in
             absurd (let none = sym (ap picked same) ∙ none-here in let some = picks-there in cc)
       ]
 
@@ -269,15 +276,16 @@ module _ (a : AutomatonView) {bytes : List ℕ} {given front kept : ℕ} {phase 
 
       -- no byte leads to the dead node
       whole : i.filled ≤ there.at
-      whole = by byte (stops a inv on).over
+      whole = by byte (hand-there a inv on) (comes a inv on).dead (read-enough a inv on)
         where
-          by : (b : Option ℕ)
-              → MatchOption b ((i.filled ≤ there.at) ⊎ ((i.stops ≡ true) × (a.listed there.state ≢ [])))
-              (λ b. (there.at < i.filled) × (b ≡ slice_index on.shown there.at) × (step_of a.built No (Some (u a inv on)) b ≡ None))
-              → i.filled ≤ there.at
-          by None (inl over) = over
-          by None (inr stopped) = absurd (stopped.1 no-match)
-          by (Some b) stopped = absurd (never-dead b stopped.0 stopped.1 stopped.2)
+          by : (b : Option ℕ) → IfSome b (λ b. (there.at < i.filled) × (b ≡ slice_index on.shown there.at))
+              → IfSome b (λ b. step_of a.built No (Some (u a inv on)) b ≡ None)
+              → (b ≡ None → (i.filled ≤ there.at) ⊎ StopsAt (scan_of a No i.stops) there.state) → i.filled ≤ there.at
+          by None hand dead enough = elim (enough refl) [
+            | inl over ↦ over
+            | inr stopped ↦ absurd (stopped.1 no-match)
+          ]
+          by (Some b) hand dead enough = absurd (never-dead b hand.0 hand.1 dead)
             where
               never-dead : (b : ℕ) → there.at < i.filled → b ≡ slice_index on.shown there.at
                   → step_of a.built No (Some (u a inv on)) b ≡ None → ⊥
@@ -286,7 +294,7 @@ module _ (a : AutomatonView) {bytes : List ℕ} {given front kept : ℕ} {phase 
                   let gone : node (at a inv on + 1) ≡ None =
                   node-next (at a inv on) s (omega arith) (u a inv on) (stands-there a inv on [] (none-more a inv)).stands
                   (ap (λ (k : ℕ). step a.built.kind (plain_of a.built) No (Some (u a inv on)) k)
-                  (byte-is a i.stops on.shown i.filled front there.at b (q a inv []) (of-search a inv on []) before is) ∙ dead) in
+                  (byte-is a i.stops (of-search a inv on []) there.at b before is) ∙ dead) in
                   dead-picked a.built.kind (so-far (at a inv on + 1)) refl (omega arith) (omega arith) gone a.built.kind
                   (picked-next (at a inv on) s (omega arith) none-there [] (ap (matches_of a.built No) gone))
 
@@ -303,14 +311,14 @@ module _ (a : AutomatonView) {bytes : List ℕ} {given front kept : ℕ} {phase 
 
       pub holds-first : HoldsBack a chains i v inv there
       holds-first = record {
-        ahead = (stops a inv on).comes.onward;
+        ahead = onward a inv on;
         all = all;
         begun = begun-before a inv on;
-        settles = settles-standard inv there.at (stops a inv on).comes.onward all standard picks-none;
+        settles = settles-standard inv there.at (onward a inv on) all standard picks-none;
         ends = λ ended. picks-none;
         stands = λ kept' rest none. record {
           node = u a inv on;
-          there = (stops a inv on).comes.stands;
+          there = (comes a inv on).there;
           after = λ more last.
               subst (λ (n : Option ChainRest). StandsAfter a.built.kind (plain_of a.built) (q a inv more) (pending a.built chains n)
               (u a inv on) (at a inv on)) (sym none) (stands-there a inv on more last);

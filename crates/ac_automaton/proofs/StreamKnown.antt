@@ -13,7 +13,7 @@ use Rattle.ac_automaton.specs.Onward.{IsRestBefore, MayTakeFrom, pending, TakesF
 use Rattle.ac_automaton.specs.Streams.{streaming_by}
 use Rattle.ac_automaton.specs.declared.automaton.commits.ChainMatch.{ChainMatch}
 use Rattle.ac_automaton.specs.declared.automaton.onward.ChainRest.{ChainRest}
-use Rattle.ac_automaton.proofs.OnwardSteps.{on-leftmost, on-some}
+use Rattle.ac_automaton.proofs.OnwardLists.{on-leftmost, on-some}
 use Rattle.ac_automaton.proofs.PastGives.{goes-known, known-high, known-numbered, known-onward, known-within, next, picks-known}
 use Rattle.ac_automaton.proofs.StreamGiving.{gives, streams-then}
 use Rattle.ac_automaton.proofs.StreamReads.{by-kind, none-more, place, q, search-is}

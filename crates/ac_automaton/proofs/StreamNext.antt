@@ -11,7 +11,7 @@ use Rattle.ac_automaton.specs.declared.automaton.onward.Given.{Given}
 use Rattle.ac_automaton.proofs.OnwardGives.{gives-first, gives-past}
 use Rattle.ac_automaton.proofs.StreamFirst.{holds-first, settles-first}
 use Rattle.ac_automaton.proofs.StreamPast.{holds-past, settles-past}
-use Rattle.ac_automaton.proofs.StreamReads.{by-kind, HoldsBack, IsReadOn, Settles, stops, u}
+use Rattle.ac_automaton.proofs.StreamReads.{by-kind, comes, HoldsBack, IsReadOn, Settles, u}
 use Rattle.ac_automaton.proofs.StreamRefusals.{past-on}
 
 -- its core is the automaton's
@@ -56,7 +56,7 @@ module _ (a : AutomatonView) {bytes : List ℕ} {given front kept : ℕ} {phase 
     | inr leftmost ↦
         let past = passes-leftmost leftmost in
         settles-past a inv on leftmost past (over-by past is.0) gave
-        (gives-past a chains i.start there.state i.stops (Some gave) past is.1 (u a inv on) (stops a inv on).comes.stands)
+        (gives-past a chains i.start there.state i.stops (Some gave) past is.1 (u a inv on) (comes a inv on).there)
   ]
 
   -- or nothing was
@@ -68,5 +68,5 @@ module _ (a : AutomatonView) {bytes : List ℕ} {given front kept : ℕ} {phase 
     | inr leftmost ↦
         let past = passes-leftmost leftmost in
         holds-past a inv on leftmost past
-        (λ over. gives-past a chains i.start there.state i.stops None past (none (inr over)) (u a inv on) (stops a inv on).comes.stands)
+        (λ over. gives-past a chains i.start there.state i.stops None past (none (inr over)) (u a inv on) (comes a inv on).there)
   ]

@@ -1,5 +1,5 @@
 -- The search of a stream under a leftmost kind: what it gives of the state to which it has come, and where nothing is given.
-use Rattle.std.proofs.Common.{◌≡◌, ◌≢◌, ◌⊎◌, ℕ, ◌+◌, ◌-◌, ◌<◌, ◌≤◌, true, false, List, [], ◌++◌, length, length-append, max, slice_index, inl, inr, refl, ap, sym, subst, ◌∙◌, arith, Option, Some, None, IfSome, MatchOption, option_map}
+use Rattle.std.proofs.Common.{◌≡◌, ◌≢◌, ◌⊎◌, ℕ, ◌+◌, ◌-◌, ◌<◌, ◌≤◌, true, false, List, [], ◌++◌, length, length-append, max, slice_index, inl, inr, refl, ap, sym, subst, ◌∙◌, arith, Option, Some, None, IfSome, option_map}
 use Rattle.std.proofs.lemmas.Bool.{false≢true}
 use Rattle.std.proofs.lemmas.List.{append-nil}
 use Rattle.ac_util.specs.Prelude.{reached, step, text}
@@ -15,11 +15,11 @@ use Rattle.ac_automaton.specs.Streams.{streaming_by}
 use Rattle.ac_automaton.specs.declared.automaton.commits.ChainMatch.{ChainMatch}
 use Rattle.ac_automaton.specs.declared.automaton.onward.ChainRest.{ChainRest}
 use Rattle.ac_automaton.specs.declared.automaton.onward.Given.{Given}
-use Rattle.ac_automaton.proofs.AliveSteps.{byte-is}
+use Rattle.ac_automaton.proofs.LedWalks.{byte-is}
 use Rattle.ac_automaton.proofs.PastGives.{ends-there, goes-on, in-node, never-dead, numbered, pattern-within, picks-first, rest-within}
 use Rattle.ac_automaton.proofs.StreamKeeping.{settles-leftmost}
 use Rattle.ac_automaton.proofs.StreamKnown.{never-standard}
-use Rattle.ac_automaton.proofs.StreamReads.{at, begun-before, HoldsBack, IsReadOn, none-more, of-search, q, search-is, Settles, stands-there, stops, u, within-buffer, within-bytes}
+use Rattle.ac_automaton.proofs.StreamReads.{at, begun-before, comes, hand-there, HoldsBack, IsReadOn, none-more, of-search, onward, q, read-enough, search-is, Settles, stands-there, u, within-buffer, within-bytes}
 use Rattle.ac_automaton.proofs.StreamRefusals.{past-on}
 use Rattle.ac_automaton.proofs.StreamReserves.{most-leftmost}
 
@@ -40,22 +40,18 @@ module _ (a : AutomatonView) {bytes : List ℕ} {given front kept : ℕ} {phase 
       node-short a.built.kind (record (q a inv []) { high = at a inv on }) refl s.within
       (let l = length-append bytes [] in omega arith) (u a inv on) s.stands
 
-  -- that it came to the end of what was read, or that a byte there leads to the dead node
-  abbrev Over : Option ℕ → Type 0
-  Over b =
-      MatchOption b ((i.filled ≤ there.at) ⊎ ((i.stops ≡ true) × (a.listed there.state ≢ [])))
-      (λ b. (there.at < i.filled) × (b ≡ slice_index on.shown there.at) × (step_of a.built No (Some (u a inv on)) b ≡ None))
-
-  read-all : (i.filled ≤ there.at) ⊎ ((i.stops ≡ true) × (a.listed there.state ≢ [])) → i.filled ≤ there.at
-  read-all (inl over) = over
-  read-all (inr stopped) = absurd (false≢true (sym past ∙ stopped.0))
+  read-all : byte ≡ None → i.filled ≤ there.at
+  read-all none = elim (read-enough a inv on none) [
+    | inl over ↦ over
+    | inr stopped ↦ absurd (false≢true (sym past ∙ stopped.0))
+  ]
 
   dead-at : (more : List ℕ) (b : ℕ) → there.at < i.filled → b ≡ slice_index on.shown there.at
       → step_of a.built No (Some (u a inv on)) b ≡ None
       → step a.built.kind (plain_of a.built) No (Some (u a inv on)) (byte_at (q a inv more) (at a inv on)) ≡ None
   dead-at more b before is dead =
       ap (λ (k : ℕ). step a.built.kind (plain_of a.built) No (Some (u a inv on)) k)
-      (byte-is a i.stops on.shown i.filled front there.at b (q a inv more) (of-search a inv on more) before is)
+      (byte-is a i.stops (of-search a inv on more) there.at b before is)
       ∙ dead
 
   -- a byte was read that leads to the dead node, or the stream has ended
@@ -63,20 +59,22 @@ module _ (a : AutomatonView) {bytes : List ℕ} {given front kept : ℕ} {phase 
     over-at : (more : List ℕ) → (phase ≡ Ended → more ≡ []) → (at a inv on ≡ (q a inv more).high)
         ⊎ ((at a inv on < (q a inv more).high)
         × (step a.built.kind (plain_of a.built) No (Some (u a inv on)) (byte_at (q a inv more) (at a inv on)) ≡ None))
-    over-at more last = by byte over (stops a inv on).over
+    over-at more last = by byte over (hand-there a inv on) (comes a inv on).dead read-all
       where
-        by : (b : Option ℕ) → (b ≢ None) ⊎ (phase ≡ Ended) → Over b
+        by : (b : Option ℕ) → (b ≢ None) ⊎ (phase ≡ Ended)
+            → IfSome b (λ b. (there.at < i.filled) × (b ≡ slice_index on.shown there.at))
+            → IfSome b (λ b. step_of a.built No (Some (u a inv on)) b ≡ None) → (b ≡ None → i.filled ≤ there.at)
             → (at a inv on ≡ (q a inv more).high)
             ⊎ ((at a inv on < (q a inv more).high)
             × (step a.built.kind (plain_of a.built) No (Some (u a inv on)) (byte_at (q a inv more) (at a inv on)) ≡ None))
-        by (Some b) over stopped =
+        by (Some b) over hand dead all =
             inr (
-              (let o = (of-search a inv on more).within in let before = stopped.0 in omega arith),
-              dead-at more b stopped.0 stopped.1 stopped.2,
+              (let o = (of-search a inv on more).within in let before = hand.0 in omega arith),
+              dead-at more b hand.0 hand.1 dead,
             )
-        by None (inl came) read = absurd (came refl)
-        by None (inr ended) read =
-            let r = read-all read in
+        by None (inl came) hand dead all = absurd (came refl)
+        by None (inr ended) hand dead all =
+            let r = all refl in
             let w = within-buffer a inv on in let c = inv.counted in let l = ap length (append-nil bytes) in
             let whole = ap (λ (ms : List ℕ). length (bytes ++ ms)) (last ended) in inl (omega arith)
 
@@ -102,7 +100,7 @@ module _ (a : AutomatonView) {bytes : List ℕ} {given front kept : ℕ} {phase 
             let r = inv.reserve ∙ most-leftmost a.built first in let s = short in
             let n = in-node a reads chains (q a inv []) (search-is a inv []) refl (u a inv on) (at a inv on) here gave is in
             let o = (pick-Occurs a.built.kind (q a inv []) m (picks [] (none-more a inv))).from_low in
-            let f = (stops a inv on).comes.onward in omega arith
+            let f = onward a inv on in omega arith
         | inr ended ↦
             absurd (let none = ended.none in
             let some = ap (λ (bs : List ℕ). pick a.built.kind (stream_from a.built bs i.begun)) (sym (append-nil bytes)) ∙ picks [] (none-more a inv) in
@@ -141,15 +139,16 @@ module _ (a : AutomatonView) {bytes : List ℕ} {given front kept : ℕ} {phase 
   -- or it isn't so, or nothing is picked
   module _ (nothing : (byte ≢ None) ⊎ (phase ≡ Ended) → IsPickIn a.built.kind (plain_of a.built) No (u a inv on) None) where
     whole : i.filled ≤ there.at
-    whole = by byte refl (stops a inv on).over
+    whole = by byte refl (hand-there a inv on) (comes a inv on).dead read-all
       where
-        by : (b : Option ℕ) → byte ≡ b → Over b → i.filled ≤ there.at
-        by None is over = read-all over
-        by (Some b) is stopped =
+        by : (b : Option ℕ) → byte ≡ b → IfSome b (λ b. (there.at < i.filled) × (b ≡ slice_index on.shown there.at))
+            → IfSome b (λ b. step_of a.built No (Some (u a inv on)) b ≡ None) → (b ≡ None → i.filled ≤ there.at) → i.filled ≤ there.at
+        by None is hand dead all = all refl
+        by (Some b) is hand dead all =
             absurd (never-dead a reads chains (q a inv []) (search-is a inv []) refl (u a inv on) (at a inv on)
             (stands-there a inv on [] (none-more a inv))
-            (let o = (of-search a inv on []).within in let before = stopped.0 in omega arith)
-            (dead-at [] b stopped.0 stopped.1 stopped.2) (nothing (inl (λ none. absurd (let no = sym is ∙ none in cc)))))
+            (let o = (of-search a inv on []).within in let before = hand.0 in omega arith)
+            (dead-at [] b hand.0 hand.1 dead) (nothing (inl (λ none. absurd (let no = sym is ∙ none in cc)))))
 
     all : there.at ≡ i.filled
     all = let w = within-buffer a inv on in let r = whole in omega arith
@@ -176,7 +175,7 @@ module _ (a : AutomatonView) {bytes : List ℕ} {given front kept : ℕ} {phase 
     beyond-picked m picked =
         let again = ap (λ (bs : List ℕ). pick a.built.kind (stream_from a.built bs i.begun)) (append-nil bytes) ∙ picked in
         let n = near-picked m again in let o = (pick-Occurs a.built.kind (q a inv []) m again).from_low in
-        let r = inv.reserve ∙ most-leftmost a.built first in let f = (stops a inv on).comes.onward in let w = within-bytes a inv on in
+        let r = inv.reserve ∙ most-leftmost a.built first in let f = onward a inv on in let w = within-bytes a inv on in
         elim inv.back [
           | inl back ↦ omega arith
           | inr over ↦ absurd (let none = over.none in cc)
@@ -184,14 +183,14 @@ module _ (a : AutomatonView) {bytes : List ℕ} {given front kept : ℕ} {phase 
 
     pub holds-past : HoldsBack a chains i v inv there
     holds-past = record {
-      ahead = (stops a inv on).comes.onward;
+      ahead = onward a inv on;
       all = all;
       begun = begun-before a inv on;
-      settles = settles-leftmost inv there.at (stops a inv on).comes.onward all first beyond-picked;
+      settles = settles-leftmost inv there.at (onward a inv on) all first beyond-picked;
       ends = ends;
       stands = λ kept' rest none. record {
         node = u a inv on;
-        there = (stops a inv on).comes.stands;
+        there = (comes a inv on).there;
         after = λ more last.
             subst (λ (n : Option ChainRest). StandsAfter a.built.kind (plain_of a.built) (q a inv more) (pending a.built chains n)
             (u a inv on) (at a inv on)) (sym none) (stands-there a inv on more last);

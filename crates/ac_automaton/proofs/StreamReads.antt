@@ -1,11 +1,14 @@
 -- The search of a stream reads on in its buffer: where it stands then, whichever bytes follow; and what it gives or keeps there.
-use Rattle.std.proofs.Common.{◌≡◌, ◌≢◌, ◌⊎◌, ℕ, ◌+◌, ◌-◌, ◌<◌, ◌≤◌, true, List, [], ◌++◌, length, length-append, take, max, get_or, inl, inr, refl, ap, sym, subst, ◌∙◌, arith, Option, Some, None, option_map}
+use Rattle.std.proofs.Common.{◌≡◌, ◌≢◌, ◌⊎◌, ℕ, ◌+◌, ◌-◌, ◌<◌, ◌≤◌, true, List, [], ◌++◌, length, length-append, take, max, get_or, slice_index, IfSome, inl, inr, refl, ap, sym, subst, ◌∙◌, arith, Option, Some, None, option_map}
 use Rattle.std.proofs.lemmas.List.{get_or-drop, get_or_append_left}
 use Rattle.ac_util.specs.Commits.{IsSearchFor, StandsAfter}
 use Rattle.ac_automaton.specs.Util.{is_leftmost, IsSettledBy, LeftmostFirst, LeftmostLongest, MatchKind, No, Occurrence, pattern_of, pick, Search, Standard}
 use Rattle.ac_automaton.specs.Prelude.{AutomatonView, Cursor, Ended, Failed, GivesMatch, HasGivenSettled, Inside, IsStreaming, kept_from, Phase, place_of, plain_of, StandsPast, stream_from, Streaming}
-use Rattle.ac_automaton.specs.Onward.{IsSearchOf, pending, ReadsAlive, StopsAlive}
-use Rattle.ac_automaton.specs.Streams.{streaming_by}
+use Rattle.ac_automaton.specs.Onward.{pending}
+use Rattle.ac_automaton.specs.Reads.{Comes, Point, StopsAt}
+use Rattle.ac_automaton.specs.Scans.{scan_of}
+use Rattle.ac_automaton.proofs.LedWalks.{IsSearchOf, led-after}
+use Rattle.ac_automaton.specs.Streams.{ReadsThrough, streaming_by}
 use Rattle.ac_automaton.specs.declared.automaton.commits.ChainMatch.{ChainMatch}
 use Rattle.ac_automaton.specs.declared.automaton.onward.ChainRest.{ChainRest}
 use Rattle.ac_automaton.specs.declared.automaton.onward.Given.{Given}
@@ -24,7 +27,8 @@ pub record IsReadOn (a : AutomatonView) (chains : List (List ChainMatch)) (i : I
   pub left : pending a.built chains i.rest ≡ []
   pub shown : List ℕ
   pub shows : shown ≡ take i.filled i.buffer
-  pub reads : ReadsAlive a i.stops shown i.filled (record { state = i.state; at = i.at }) there byte
+  pub reads : ReadsThrough (scan_of a No i.stops) shown (record { state = i.state; at = i.at }) there byte
+  pub long : length shown ≡ i.filled
 
 module _ (a : AutomatonView) {bytes : List ℕ} {given front kept : ℕ} {phase : Phase} {buffer : ℕ} {chains : List (List ChainMatch)}
     {i : Inside} (inv : IsStreaming (a.stands No) chains i (streaming_by a.built bytes given front kept phase buffer)) where
@@ -48,17 +52,33 @@ module _ (a : AutomatonView) {bytes : List ℕ} {given front kept : ℕ} {phase 
   none-more ended = refl
 
   module _ {there : Cursor} {byte : Option ℕ} (on : IsReadOn a chains i there byte) where
-    abbrev pub stops : StopsAlive a i.stops on.shown i.filled inv.past.node (record { state = i.state; at = i.at }) there byte
-    stops = on.reads inv.past.node inv.past.there
+    abbrev from-here : Point
+    from-here = record { bytes = on.shown; cursor = record { state = i.state; at = i.at }; hand = None; work = on.reads.work }
+
+    abbrev pub comes : Comes (scan_of a No i.stops) from-here inv.past.node
+        (record { bytes = on.shown; cursor = there; hand = byte; work = on.reads.new_work })
+    comes = on.reads.read.on.comes inv.past.node inv.past.there
 
     abbrev pub u : List ℕ
-    u = stops.comes.node
+    u = comes.node
+
+    -- a byte in hand is one of those that are filled, and else they were read to their end, or as far as the search stops
+    pub hand-there : IfSome byte (λ b. (there.at < i.filled) × (b ≡ slice_index on.shown there.at))
+    hand-there =
+        subst (λ (n : ℕ). IfSome byte (λ b. (there.at < n) × (b ≡ slice_index on.shown there.at))) on.long on.reads.read.on.hand
+
+    pub read-enough : byte ≡ None → (i.filled ≤ there.at) ⊎ StopsAt (scan_of a No i.stops) there.state
+    read-enough =
+        subst (λ (n : ℕ). byte ≡ None → (n ≤ there.at) ⊎ StopsAt (scan_of a No i.stops) there.state) on.long on.reads.read.enough
+
+    pub onward : i.at ≤ there.at
+    onward = on.reads.read.on.scans.onward
 
     abbrev pub at : ℕ
     at = front + there.at
 
     pub within-buffer : there.at ≤ i.filled
-    within-buffer = stops.comes.within inv.within
+    within-buffer = (let w = inv.within in let l = on.long in let h = on.reads.read.on.within (omega arith) in omega arith)
 
     pub within-bytes : at ≤ length bytes
     within-bytes = let w = within-buffer in let c = inv.counted in omega arith
@@ -84,7 +104,11 @@ module _ (a : AutomatonView) {bytes : List ℕ} {given front kept : ℕ} {phase 
     -- and so it stands now
     pub stands-there : (more : List ℕ) → (phase ≡ Ended → more ≡ [])
         → StandsAfter a.built.kind (plain_of a.built) (q more) [] u at
-    stands-there more last = stops.comes.along front (q more) (of-search more) (stands-here more last)
+    stands-there more last =
+        subst (λ (k : ℕ). StandsAfter a.built.kind (plain_of a.built) (q more) [] u k)
+        (let o = onward in let e : front + (i.at + (there.at - i.at)) ≡ at = omega arith in e)
+        (led-after a i.stops (of-search more) [] inv.past.node i.at (stands-here more last) (there.at - i.at) u
+        (let o = onward in let w = within-buffer in omega arith) comes.leads)
 
     pub begun-before : i.begun ≤ at
     begun-before = (stands-there [] none-more).within

@@ -1,14 +1,14 @@
 -- A walk that finds match after match: what it has read and counted.
-use Rattle.std.proofs.Common.{◌≡◌, ℕ, ◌+◌, ◌-◌, ◌<◌, ◌≤◌, Bool, MatchBool, true, false, ◌∙◌, [], ◌∷◌, inl, inr, refl, sym, arith, Option, Some, None, IfSome, MatchOption, ◌==◌, max, min, rules}
+use Rattle.std.proofs.Common.{◌≡◌, ℕ, ◌+◌, ◌-◌, ◌<◌, ◌≤◌, ◌||◌, not, if◌then◌else◌, ap, Bool, MatchBool, true, false, ◌∙◌, [], ◌∷◌, inl, inr, refl, sym, arith, Option, Some, None, IfSome, MatchOption, ◌==◌, max, min, rules}
 use Rattle.std.proofs.lemmas.Bool.{and_parts, cases_Bool, eqb-true, false≢true}
 use Rattle.std.proofs.lemmas.Option.{IfSome_then}
 use Rattle.std.proofs.lemmas.Grind.{common_steps}
-use Rattle.ac_automaton.specs.Util.{from, LeftmostFirst, LeftmostLongest, MatchKind, next_match, Occurrence, pick, repeats, Search, shortest_len, Standard, walk_after}
+use Rattle.ac_automaton.specs.Util.{from, is_leftmost, LeftmostFirst, LeftmostLongest, MatchKind, next_match, Occurrence, pick, repeats, Search, shortest_len, Standard, walk_after}
 use Rattle.ac_util.proofs.OneLonger.{none-past_end}
 use Rattle.ac_util.proofs.Shortest.{shortest-least}
 use Rattle.ac_util.proofs.Walks.{pick-in_span, pick-Occurs, walk_after-None, walk_after-Some}
 use Rattle.ac_automaton.proofs.ReadOn.{grows-trans}
-use Rattle.ac_automaton.specs.Prelude.{after, Finds, GoesOn, Grows, HasFound, HasSearched, IsByFinds, IsUnderWay, kept_place, last_after, Picking, reads_past, Walking, Work}
+use Rattle.ac_automaton.specs.Prelude.{after, Finds, GoesOn, Grows, HasFound, HasSearched, IsByFinds, IsPaid, IsUnderWay, MovesApart, kept_place, last_after, Picking, reads_past, Walking, Work}
 
 -- a find of a walk reads from no place past the one read up to, and under Standard from just there
 kept : (order : MatchKind) (place : ℕ)
@@ -95,7 +95,7 @@ under_way-found {walking = walking} {r = None} way found =
       place = λ _. omega arith;
       calls = λ _. omega arith;
       covered = λ _ _ past. absurd (omega arith);
-      told = λ none some. IfSome_then walking.last (way.paid.told (omega arith) some) (λ e t. omega arith);
+      told = λ none some. IfSome_then walking.last (way.told (omega arith) some) (λ e t. omega arith);
     })
 under_way-found {walking = walking} {r = Some m} way found =
     let read = found.read in let span = pick-in_span walking.picking.order walking.left m (sym found.answer) in
@@ -137,6 +137,46 @@ finds-grow walking work finds = by (repeats (pick walking.picking.order walking.
     by true (between, first, second) = grows-trans first.read.grows second.read.grows
     by false found = found.read.grows
 
+-- under Standard its finds go on where it had come to, and read no more bytes than lie between
+finds-apart : (walking : Walking) (work : Work) → IsUnderWay walking → walking.picking.order ≡ Standard → Finds walking work
+    → MovesApart walking.work work
+finds-apart walking work way standard finds =
+    let w = way.unread standard in let k = (kept walking.picking.order walking.work.place).1 standard in
+    elim (cases_Bool (repeats (pick walking.picking.order walking.left) walking.last)) [
+      | inl again ↦
+          (let both = rw again at finds in
+          let between = both.0 in let first = both.1.read in let second = both.2.read in
+          let there = (repeated walking.last both.1 way.beyond again).place standard in
+          let next = (kept walking.picking.order between.place).1 standard in
+          let a = first.onward in let b = first.reads in let c = second.onward in let d = second.reads in
+          record { onward = omega arith; reads = omega arith })
+      | inr once ↦
+          (let found = rw once at finds in let read = found.read in let a = read.onward in let b = read.reads in
+          record { onward = omega arith; reads = omega arith })
+    ]
+
+-- under Standard alone a walk by finds reads no byte twice
+once-standard : (order : MatchKind) (past : Bool) → past ≡ false → (not (is_leftmost order) || past) ≡ true → order ≡ Standard
+once-standard Standard past finds once = refl
+once-standard LeftmostFirst past finds once = absurd (false≢true (sym finds ∙ once))
+once-standard LeftmostLongest past finds once = absurd (false≢true (sym finds ∙ once))
+
+-- what it has counted is paid
+paid-finds : {walking : Walking} → IsUnderWay walking → reads_past walking ≡ false → (to : ℕ) → IsPaid walking to
+paid-finds {walking} way by_finds to =
+    let none = ap (λ (t : Bool). if t then min to walking.left.high - walking.start else 0) by_finds in
+    record {
+      looked = way.looked;
+      looks = (let l = way.looks in omega arith);
+      reads = λ once. (let s = once-standard walking.picking.order (reads_past walking) by_finds once in
+          let r = way.reads s in let w = way.within in omega arith);
+      calls = λ once. (let s = once-standard walking.picking.order (reads_past walking) by_finds once in
+          let c = way.called s in omega arith);
+      quiet = way.quiet;
+      told = way.told;
+      rest = λ none past. absurd (false≢true (sym by_finds ∙ past));
+    }
+
 -- it has gone on where the next match is found by one find or by two
 pub has-gone : {walking : Walking} {work : Work} {r : Option Occurrence} → IsUnderWay walking
     → walking.rest ≡ walk_after walking.picking.order walking.left walking.last
@@ -155,8 +195,8 @@ has-gone {walking = walking} {work = work} {r = r} way rest is finds by_finds =
         same = refl;
         finds = λ _. finds;
         grows = finds-grow walking work finds;
-        once = λ past. absurd (false≢true (sym by_finds ∙ past));
-        paid = record { finds = λ _. still.paid; once = λ past. absurd (false≢true (sym by_finds ∙ past)) };
+        apart = λ once. finds-apart walking work way (once-standard walking.picking.order (reads_past walking) by_finds once) finds;
+        paid = paid-finds still by_finds walking.left.low;
       };
       way = record { by_finds = by_finds; under_way = still };
     }

@@ -1,5 +1,5 @@
 -- A walk that reads on past its matches: where it begins, what it gives, and that what it counts is paid.
-use Rattle.std.proofs.Common.{◌≡◌, ℕ, ◌+◌, ◌-◌, ◌<◌, ◌≤◌, ◌==◌, if◌then◌else◌, Bool, true, false, List, [], length, refl, ap, sym, ◌∙◌, subst, arith, Option, None, Some, IfSome, MatchOption}
+use Rattle.std.proofs.Common.{◌≡◌, ℕ, ◌+◌, ◌-◌, ◌*◌, ◌<◌, ◌≤◌, ◌==◌, if◌then◌else◌, min, Bool, true, false, List, [], length, refl, ap, sym, ◌∙◌, subst, arith, Option, None, Some, IfSome, MatchOption}
 use Rattle.std.specs.Option.{is_some}
 use Rattle.std.proofs.lemmas.Bool.{false≢true}
 use Rattle.std.proofs.lemmas.Option.{IfSome_then}
@@ -9,15 +9,16 @@ use Rattle.ac_util.proofs.Onward.{after-low, after-start}
 use Rattle.ac_util.proofs.OneLonger.{none-past_end}
 use Rattle.ac_util.proofs.PickedWalks.{next-any}
 use Rattle.ac_util.proofs.Walks.{next-none, walk_after-None}
-use Rattle.ac_automaton.specs.Prelude.{after, AutomatonView, Finding, finding_of, Cursor, GoesOn, Grows, HasReadOnce, IsByFinds, IsPaidOnce, last_after, plain_of, reads_past, search_of, Walking, walking_of, Work, work_of}
+use Rattle.ac_automaton.specs.Prelude.{after, AutomatonView, Finding, finding_of, Cursor, GoesOn, Grows, IsByFinds, IsPaid, last_after, looks_beyond, plain_of, reads_past, search_of, Walking, walking_of, Work, work_of}
 use Rattle.ac_automaton.specs.Commits.{reads_on}
-use Rattle.ac_automaton.specs.Iterators.{reads_past_by}
-use Rattle.ac_automaton.specs.Onward.{BeginsPast, GoesOnward, HasGiven, in_hand, IsCounted, IsKept, IsOnward, IsOnwardIn, IsReadingPast, IsRestBefore, KeepsOnward, pending}
+use Rattle.ac_automaton.specs.Iterators.{first_work, reads_past_by}
+use Rattle.ac_automaton.specs.Reads.{in_hand}
+use Rattle.ac_automaton.specs.Onward.{BeginsPast, GoesOnward, HasGiven, IsCounted, IsKept, IsOnward, IsOnwardIn, IsReadingPast, IsRestBefore, kept_work, KeepsOnward, MovesOnward, pending, reached_by}
 use Rattle.ac_automaton.specs.declared.automaton.onward.ChainRest.{ChainRest}
 use Rattle.ac_automaton.specs.declared.automaton.onward.Onward.{Onward}
 use Rattle.ac_automaton.specs.declared.automaton.skip.SkipBudget.{SkipBudget}
 use Rattle.ac_automaton.proofs.OnwardGives.{within-end}
-use Rattle.ac_automaton.proofs.OnwardSteps.{on-leftmost, on-some}
+use Rattle.ac_automaton.proofs.OnwardLists.{on-leftmost, on-some}
 use Rattle.ac_automaton.proofs.ReadOn.{grows-same}
 use Rattle.ac_automaton.proofs.WalkLoop.{gives}
 
@@ -37,15 +38,20 @@ module _ (a : AutomatonView) (bytes : List ℕ) (span : Span) (last : Option ℕ
   walking-at found work =
       walking_of (finding_of a No false) bytes (record { start = after span.end found; end = span.end }) (last_after last found) start work
 
+  -- so many looks it may have taken beyond those for each byte read
+  beyond-is : (found : Option Occurrence) (work : Work) (to : ℕ) → looks_beyond (walking-at found work) to ≡ min to span.end - start
+  beyond-is found work to = ap (λ (t : Bool). if t then min to span.end - start else 0) on
+
   paid-ended : {work : Work} → IsCounted a.most (may_skip a.wants_prefilter q) start span.end 0 (span.start - start) work.counts
-      → IsPaidOnce (walking-at None work)
-  paid-ended {work} counted = record {
+      → (to : ℕ) → span.start ≤ to → IsPaid (walking-at None work) to
+  paid-ended {work} counted to up = record {
     looked = counted.looked;
-    looks = (let p = counted.paid in omega arith);
-    reads = counted.reads;
-    calls = counted.calls;
+    looks = (let p = counted.paid in let b = beyond-is None work to in omega arith);
+    reads = λ _. counted.reads;
+    calls = λ _. counted.calls;
     quiet = counted.quiet;
-    told = λ none. IfSome_then last beyond (λ e b. let w = counted.whole none in omega arith);
+    told = λ none some. IfSome_then last beyond (λ e b. let w = counted.whole none in omega arith);
+    rest = λ none past over. counted.whole none;
   }
 
   module _ (m : Occurrence) {ms : List Occurrence} {cursor : Cursor} {byte : Option ℕ} {work : Work}
@@ -59,16 +65,18 @@ module _ (a : AutomatonView) (bytes : List ℕ) (span : Span) (last : Option ℕ
         onward.node cursor.at (record { free = refl; ordered = onward.ordered; inside = inside; same = refl }) onward.stands.after in
         let up = onward.stands.after.within in omega arith
 
-    paid-given : IsPaidOnce (walking-at (Some m) work)
-    paid-given =
+    paid-given : work.counts.looks ≤ a.most * work.counts.reads + (span.start - start) → (place : ℕ)
+        → IsPaid (walking-at (Some m) (record work { place = place })) span.start
+    paid-given paid place =
         let c = onward.counted in let h = high in let l = low in let o = onward.ordered in
         record {
           looked = c.looked;
-          looks = (let p = c.paid in omega arith);
-          reads = (let r = c.reads in omega arith);
-          calls = (let r = c.calls in omega arith);
+          looks = (let b = beyond-is (Some m) (record work { place = place }) span.start in omega arith);
+          reads = λ _. (let r = c.reads in omega arith);
+          calls = λ _. (let r = c.calls in omega arith);
           quiet = c.quiet;
-          told = λ none. let w = c.whole none in omega arith;
+          told = λ none some. let w = c.whole none in omega arith;
+          rest = λ none past over. absurd (omega arith);
         }
 
 -- such a walk reads on past its matches
@@ -83,7 +91,7 @@ pub record HasGonePast {A M : Type 0} (seen : A → AutomatonView) (finding : Fi
     (start : ℕ) (work : Work) (found : Option Occurrence) (new : Onward A M) (new_tape : Taped) (new_counts : Counts) : Type 0 where
   pub goes_on : GoesOn (walking_of finding bytes span last start work) found
       (walking_of finding new_tape.bytes (record { start = after span.end found; end = span.end }) (last_after last found) start
-      (work_of new_tape new_counts))
+      (record { place = reached_by new; counts = new_counts }))
   pub past : IsReadingPast seen new finding new_tape (record { start = after span.end found; end = span.end }) (last_after last found)
       start new_counts
 
@@ -101,12 +109,18 @@ module _ {A M : Type 0} (seen : A → AutomatonView) (o : Onward A M) (tape : Ta
     abbrev work : Work
     work = record { place = place; counts = new_counts }
 
-    goes-by : Grows counts new_counts → (found : Option Occurrence) → found ≡ pick a.built.kind asked
-        → HasReadOnce (walking_of (finding_of a No false) tape.bytes span last start (work_of tape counts)) found new_counts
-        → IsPaidOnce (walking-at a tape.bytes span last start past.lawful.on inside ordered past.begun past.beyond found work)
-        → GoesOn (walking_of (finding_of a No false) tape.bytes span last start (work_of tape counts)) found
-        (walking-at a tape.bytes span last start past.lawful.on inside ordered past.begun past.beyond found work)
-    goes-by grows found answer once paid =
+    abbrev moved : Onward A M
+    moved = record o { cursor = cursor; byte = byte; rest = rest; budget = budget }
+
+    -- what it has done, by where it has come to
+    abbrev done : Work
+    done = record { place = reached_by moved; counts = new_counts }
+
+    goes-by : Grows counts new_counts → MovesOnward o counts moved new_counts → (found : Option Occurrence) → found ≡ pick a.built.kind asked
+        → IsPaid (walking-at a tape.bytes span last start past.lawful.on inside ordered past.begun past.beyond found done) span.start
+        → GoesOn (walking_of (finding_of a No false) tape.bytes span last start (record { place = reached_by o; counts = counts })) found
+        (walking-at a tape.bytes span last start past.lawful.on inside ordered past.begun past.beyond found done)
+    goes-by grows moves found answer paid =
         let same : found ≡ next_match a.built.kind asked last =
         answer ∙ sym (next-any a.built.kind (plain_of a.built) (on-some a.built past.lawful.on) asked
         (record { free = refl; ordered = ordered; inside = inside; same = refl }) last) in
@@ -116,24 +130,17 @@ module _ {A M : Type 0} (seen : A → AutomatonView) (o : Onward A M) (tape : Ta
           same = refl;
           finds = λ not. absurd (false≢true (sym not ∙ reads-past past));
           grows = grows;
-          once = λ _. once;
-          paid = record {
-            finds = λ not. absurd (false≢true (sym not ∙ reads-past past));
-            once = λ _. paid;
-          };
+          apart = λ _. record { onward = moves.onward; reads = moves.reads };
+          paid = paid;
         }
 
-    abbrev moved : Onward A M
-    moved = record o { cursor = cursor; byte = byte; rest = rest; budget = budget }
-
-    past-by : Grows counts new_counts → (found : Option Occurrence) → HasGiven a o.core.commits.now.chains asked start found rest cursor byte work
-        → HasGonePast seen (finding_of a No false) tape.bytes span last start (work_of tape counts) found moved
+    past-by : Grows counts new_counts → MovesOnward o counts moved new_counts → (found : Option Occurrence) → HasGiven a o.core.commits.now.chains asked start found rest cursor byte work
+        → HasGonePast seen (finding_of a No false) tape.bytes span last start (record { place = reached_by o; counts = counts }) found moved
         (record { bytes = tape.bytes; place = place }) new_counts
-    past-by grows None given =
-        let paid = paid-ended a tape.bytes span last start past.lawful.on inside ordered past.begun past.beyond {work = work} given.goes in
+    past-by grows moves None given =
+        let paid = paid-ended a tape.bytes span last start past.lawful.on inside ordered past.begun past.beyond {work = done} given.goes in
         record {
-          goes_on = goes-by grows None given.answer
-              (record { looks = (let l = given.looks in omega arith); rest = λ none. given.goes.whole }) paid;
+          goes_on = goes-by grows moves None given.answer (paid span.start (omega arith));
           past = record {
             finds = refl;
             lawful = record { past = past.lawful.past; on = past.lawful.on; starts = past.lawful.starts; commits = past.lawful.commits; skips = past.lawful.skips; needle = past.lawful.needle };
@@ -142,15 +149,15 @@ module _ {A M : Type 0} (seen : A → AutomatonView) (o : Onward A M) (tape : Ta
             beyond = IfSome_then last past.beyond (λ e b. omega arith);
             sound = λ up. absurd (omega arith);
             onward = λ up. absurd (omega arith);
-            rest = λ _. given.goes.whole;
-            ended = λ _. paid;
+            ended = λ _. paid (span.end + 1) (omega arith);
           };
         }
-    past-by grows (Some m) given =
+    past-by grows moves (Some m) given =
         let onward = given.goes.1 in
         record {
-          goes_on = goes-by grows (Some m) given.answer (record { looks = (let l = given.looks in omega arith); rest = λ none. absurd (cc) })
-              (paid-given a tape.bytes span last start past.lawful.on inside ordered past.begun past.beyond m onward);
+          goes_on = goes-by grows moves (Some m) given.answer
+              (paid-given a tape.bytes span last start past.lawful.on inside ordered past.begun past.beyond m onward given.looks
+              (reached_by moved));
           past = record {
             finds = refl;
             lawful = record { past = past.lawful.past; on = past.lawful.on; starts = past.lawful.starts; commits = past.lawful.commits; skips = past.lawful.skips; needle = past.lawful.needle };
@@ -159,7 +166,6 @@ module _ {A M : Type 0} (seen : A → AutomatonView) (o : Onward A M) (tape : Ta
             beyond = omega arith;
             sound = λ _. given.goes.0;
             onward = λ _. onward;
-            rest = λ over. absurd (let h = onward.ordered in omega arith);
             ended = λ over. absurd (let h = onward.ordered in omega arith);
           };
         }
@@ -168,19 +174,19 @@ module _ {A M : Type 0} (seen : A → AutomatonView) (o : Onward A M) (tape : Ta
 pub past-goes : {A M : Type 0} {seen : A → AutomatonView} {o : Onward A M} {finding : Finding} {tape : Taped} {span : Span}
     {last : Option ℕ} {start : ℕ} {counts : Counts} → span.end ≤ length tape.bytes → span.start ≤ span.end
     → IsReadingPast seen o finding tape span last start counts → (found : Option Occurrence) (new : Onward A M) (new_tape : Taped)
-    (new_counts : Counts) → Grows counts new_counts → KeepsOnward o new → new_tape.bytes ≡ tape.bytes
+    (new_counts : Counts) → Grows counts new_counts → MovesOnward o counts new new_counts → KeepsOnward o new → new_tape.bytes ≡ tape.bytes
     → GoesOnward seen o span tape counts found new new_tape new_counts
-    → HasGonePast seen finding tape.bytes span last start (work_of tape counts) found new new_tape new_counts
-past-goes {A} {M} {seen} {o} {finding} {tape} {span} {last} {start} {counts} inside ordered past found new new_tape new_counts grows keeps bytes goes =
-    subst (λ (f : Finding). HasGonePast seen f tape.bytes span last start (work_of tape counts) found new new_tape new_counts) (sym past.finds)
-    (subst (λ (n : Onward A M). HasGonePast seen (finding_of (seen o.core.automaton.now) No false) tape.bytes span last start (work_of tape counts)
+    → HasGonePast seen finding tape.bytes span last start (record { place = reached_by o; counts = counts }) found new new_tape new_counts
+past-goes {A} {M} {seen} {o} {finding} {tape} {span} {last} {start} {counts} inside ordered past found new new_tape new_counts grows moves keeps bytes goes =
+    subst (λ (f : Finding). HasGonePast seen f tape.bytes span last start (record { place = reached_by o; counts = counts }) found new new_tape new_counts) (sym past.finds)
+    (subst (λ (n : Onward A M). HasGonePast seen (finding_of (seen o.core.automaton.now) No false) tape.bytes span last start (record { place = reached_by o; counts = counts })
     found n new_tape new_counts) (sym keeps)
-    (subst (λ (bs : List ℕ). HasGonePast seen (finding_of (seen o.core.automaton.now) No false) tape.bytes span last start (work_of tape counts)
+    (subst (λ (bs : List ℕ). HasGonePast seen (finding_of (seen o.core.automaton.now) No false) tape.bytes span last start (record { place = reached_by o; counts = counts })
     found (record o { cursor = new.cursor; byte = new.byte; rest = new.rest; budget = new.budget }) (record { bytes = bs; place = new_tape.place }) new_counts)
     (sym bytes)
     (past-by seen o tape span last start counts inside ordered
     (subst (λ (f : Finding). IsReadingPast seen o f tape span last start counts) past.finds past)
-    new.cursor new.byte new.rest new.budget new_counts new_tape.place grows found (goes start (past.onward ordered)))))
+    new.cursor new.byte new.rest new.budget new_counts new_tape.place grows (record { onward = moves.onward; reads = moves.reads }) found (goes start (past.onward ordered)))))
 
 -- a new tape changes nothing of it
 pub with-fresh : {A M : Type 0} {seen : A → AutomatonView} {o : Onward A M} {finding : Finding} {tape : Taped} {span : Span}
@@ -201,48 +207,27 @@ with-fresh past = record {
     begun = o.begun;
     ordered = o.ordered;
   };
-  rest = past.rest;
-  ended = λ over. let paid = past.ended over in record {
-    looked = paid.looked;
-    looks = paid.looks;
-    reads = paid.reads;
-    calls = paid.calls;
-    quiet = paid.quiet;
-    told = paid.told;
-  };
+  ended = past.ended;
 }
 
 -- it has gone on with a new tape by what it has given
 pub fresh-goes : {A M : Type 0} {seen : A → AutomatonView} {o : Onward A M} {finding : Finding} {tape : Taped} {span : Span}
     {last : Option ℕ} {start : ℕ} {counts : Counts} → span.end ≤ length tape.bytes → span.start ≤ span.end
     → IsReadingPast seen o finding tape span last start counts → (new : Taped) → new ≡ fresh tape.bytes → (found : Option Occurrence)
-    (new_onward : Onward A M) (new_tape : Taped) (new_counts : Counts) → Grows counts new_counts → KeepsOnward o new_onward → new_tape.bytes ≡ new.bytes
+    (new_onward : Onward A M) (new_tape : Taped) (new_counts : Counts) → Grows counts new_counts → MovesOnward o counts new_onward new_counts → KeepsOnward o new_onward → new_tape.bytes ≡ new.bytes
     → GoesOnward seen o span new counts found new_onward new_tape new_counts
-    → HasGonePast seen finding tape.bytes span last start (work_of tape counts) found new_onward new_tape new_counts
-fresh-goes {seen = seen} {o = o} {finding = finding} {tape = tape} {span = span} {last = last} {start = start} {counts = counts} inside ordered past new is found new_onward new_tape new_counts grows keeps bytes goes =
-    let gone =
-    past-goes inside ordered (with-fresh past) found new_onward new_tape new_counts grows keeps (bytes ∙ ap (λ (t : Taped). t.bytes) is)
-    (subst (λ (t : Taped). GoesOnward seen o span t counts found new_onward new_tape new_counts) is goes) in
-    record {
-      goes_on = record {
-        gives = gone.goes_on.gives;
-        next = gone.goes_on.next;
-        same = gone.goes_on.same;
-        finds = λ not. absurd (false≢true (sym not ∙ reads-past past));
-        grows = grows;
-        once = λ is. record { looks = (gone.goes_on.once is).looks; rest = (gone.goes_on.once is).rest };
-        paid = gone.goes_on.paid;
-      };
-      past = gone.past;
-    }
+    → HasGonePast seen finding tape.bytes span last start (record { place = reached_by o; counts = counts }) found new_onward new_tape new_counts
+fresh-goes {seen = seen} {o = o} {finding = finding} {tape = tape} {span = span} {last = last} {start = start} {counts = counts} inside ordered past new is found new_onward new_tape new_counts grows moves keeps bytes goes =
+    past-goes inside ordered (with-fresh past) found new_onward new_tape new_counts grows moves keeps (bytes ∙ ap (λ (t : Taped). t.bytes) is)
+    (subst (λ (t : Taped). GoesOnward seen o span t counts found new_onward new_tape new_counts) is goes)
 
 -- past the end of its span it gives nothing more
 pub past-over : {A M : Type 0} {seen : A → AutomatonView} {o : Onward A M} {finding : Finding} {tape : Taped} {span : Span}
     {last : Option ℕ} {start : ℕ} {counts : Counts} → span.end < span.start
     → IsReadingPast seen o finding tape span last start counts
-    → GoesOn (walking_of finding tape.bytes span last start (work_of tape counts)) None
-    (walking_of finding tape.bytes span last start (work_of tape counts))
-past-over {finding = finding} {tape = tape} {span = span} {last = last} {start = start} {counts = counts} over past =
+    → GoesOn (walking_of finding tape.bytes span last start (record { place = reached_by o; counts = counts })) None
+    (walking_of finding tape.bytes span last start (record { place = reached_by o; counts = counts }))
+past-over {o = o} {finding = finding} {tape = tape} {span = span} {last = last} {start = start} {counts = counts} over past =
     let q = search_of finding.built finding.anchored tape.bytes span.start span.end in
     let none = next-none finding.picking.order q last (none-past_end finding.picking.order q over) in
     let empty = walk_after-None finding.picking.order q last none in
@@ -250,14 +235,11 @@ past-over {finding = finding} {tape = tape} {span = span} {last = last} {start =
     record {
       gives = (empty, empty);
       next = sym none;
-      same = ap (λ (k : ℕ). record (walking_of finding tape.bytes span last start (work_of tape counts)) { left = from q k }) ends;
+      same = ap (λ (k : ℕ). record (walking_of finding tape.bytes span last start (record { place = reached_by o; counts = counts })) { left = from q k }) ends;
       finds = λ not. absurd (false≢true (sym not ∙ reads-past past));
       grows = grows-same counts;
-      once = λ _. record { looks = (past.ended over).looks; rest = λ none. past.rest over };
-      paid = record {
-        finds = λ not. absurd (false≢true (sym not ∙ reads-past past));
-        once = λ _. past.ended over;
-      };
+      apart = λ _. record { onward = omega arith; reads = omega arith };
+      paid = past.ended over;
     }
 
 -- what is kept of a walk that reads on past its matches, or of one by finds
@@ -270,26 +252,26 @@ module _ {A M : Type 0} {seen : A → AutomatonView} {finding : Finding} {tape :
   kept-finds is = (subst (IsKept seen finding tape span last start counts) is kept).by
 
   -- the first reads on past its matches
-  pub kept-reads : {now : Walking} → walking_of finding tape.bytes span last start (work_of tape counts) ≡ now → is_some r ≡ true
+  pub kept-reads : {now : Walking} → walking_of finding tape.bytes span last start (kept_work r tape counts) ≡ now → is_some r ≡ true
       → reads_past now ≡ true
-  kept-reads {now} is there = by r there kept.by
+  kept-reads {now} is there = by r is there kept.by
     where
-      by : (r : Option (Onward A M)) → is_some r ≡ true → MatchOption r
+      by : (r : Option (Onward A M)) → walking_of finding tape.bytes span last start (kept_work r tape counts) ≡ now → is_some r ≡ true → MatchOption r
           (IsByFinds (walking_of finding tape.bytes span last start (work_of tape counts)))
           (λ o. IsReadingPast seen o finding tape span last start counts) → reads_past now ≡ true
-      by None e finds = absurd (false≢true e)
-      by (Some o) e reads = ap reads_past (sym is) ∙ reads-past reads
+      by None is e finds = absurd (false≢true e)
+      by (Some o) is e reads = ap reads_past (sym is) ∙ reads-past reads
 
   -- one that reads on past its matches gives nothing more past the end of its span
-  pub kept-over : {now : Walking} → walking_of finding tape.bytes span last start (work_of tape counts) ≡ now → reads_past now ≡ true
+  pub kept-over : {now : Walking} → walking_of finding tape.bytes span last start (kept_work r tape counts) ≡ now → reads_past now ≡ true
       → span.end < span.start → GoesOn now None now
-  kept-over {now} is past over = by r kept.by
+  kept-over {now} is past over = by r is kept.by
     where
-      by : (r : Option (Onward A M)) → MatchOption r
+      by : (r : Option (Onward A M)) → walking_of finding tape.bytes span last start (kept_work r tape counts) ≡ now → MatchOption r
           (IsByFinds (walking_of finding tape.bytes span last start (work_of tape counts)))
           (λ o. IsReadingPast seen o finding tape span last start counts) → GoesOn now None now
-      by None finds = absurd (false≢true (sym finds.by_finds ∙ ap reads_past is ∙ past))
-      by (Some o) reads = subst (λ (w : Walking). GoesOn w None w) is (past-over over reads)
+      by None is finds = absurd (false≢true (sym finds.by_finds ∙ ap reads_past is ∙ past))
+      by (Some o) is reads = subst (λ (w : Walking). GoesOn w None w) is (past-over over reads)
 
 -- what there isn't is none
 pub none-from : {X : Type 0} (r : Option X) → is_some r ≡ false → r ≡ None
@@ -311,14 +293,14 @@ module _ {A M : Type 0} {seen : A → AutomatonView} {finding : Finding} {bytes 
     (at : ℕ) (there : at ≡ after span.end found) (ended : Option ℕ) (ends : ended ≡ last_after last found) where
   pub gone-goes : {now : Walking} → walking_of finding bytes span last start work ≡ now
       → GoesOn now found
-      (walking_of finding new_tape.bytes (record { start = at; end = span.end }) ended start (work_of new_tape new_counts))
+      (walking_of finding new_tape.bytes (record { start = at; end = span.end }) ended start (record { place = reached_by new; counts = new_counts }))
   gone-goes {now} is =
       subst (λ (w : Walking). GoesOn w found
-      (walking_of finding new_tape.bytes (record { start = at; end = span.end }) ended start (work_of new_tape new_counts))) is
+      (walking_of finding new_tape.bytes (record { start = at; end = span.end }) ended start (record { place = reached_by new; counts = new_counts }))) is
       (subst (λ (k : ℕ). GoesOn (walking_of finding bytes span last start work) found
-      (walking_of finding new_tape.bytes (record { start = k; end = span.end }) ended start (work_of new_tape new_counts))) (sym there)
+      (walking_of finding new_tape.bytes (record { start = k; end = span.end }) ended start (record { place = reached_by new; counts = new_counts }))) (sym there)
       (subst (λ (l : Option ℕ). GoesOn (walking_of finding bytes span last start work) found
-      (walking_of finding new_tape.bytes (record { start = after span.end found; end = span.end }) l start (work_of new_tape new_counts)))
+      (walking_of finding new_tape.bytes (record { start = after span.end found; end = span.end }) l start (record { place = reached_by new; counts = new_counts })))
       (sym ends) gone.goes_on))
 
   pub gone-past : IsReadingPast seen new finding new_tape (record { start = at; end = span.end }) ended start new_counts
@@ -376,14 +358,14 @@ module _ {A M : Type 0} (seen : A → AutomatonView) (finding : Finding) (bytes 
             (subst (λ (b : Option ℕ). IsOnwardIn a (fresh bytes) span.start span.end span.start [] o.cursor b no_counts) (sym begins.byte)
             (subst (λ (k : Cursor). IsOnwardIn a (fresh bytes) span.start span.end span.start [] k None no_counts) (sym begins.cursor)
             (at-start ordered)));
-        rest = λ over none. omega arith;
         ended = λ over. record {
           looked = omega arith;
           looks = omega arith;
-          reads = omega arith;
-          calls = omega arith;
+          reads = λ _. omega arith;
+          calls = λ _. omega arith;
           quiet = λ not. refl;
-          told = λ none. tt;
+          told = λ none some. tt;
+          rest = λ none past ended. omega arith;
         };
       }
 
@@ -392,6 +374,22 @@ module _ {A M : Type 0} (seen : A → AutomatonView) (finding : Finding) (bytes 
       → IsKept seen finding (fresh bytes) span None span.start no_counts r
   begins-kept None finds = record { by = record { by_finds = finds; under_way = grind (arith, common_steps) } }
   begins-kept (Some o) begins = record { by = begins-reading o begins }
+
+-- and has done nothing
+pub work-first : {A M : Type 0} (seen : A → AutomatonView) (finding : Finding) (at : ℕ) {bytes : List ℕ} {tape : Taped} {counts : Counts}
+    (r : Option (Onward A M)) → tape ≡ record { bytes = bytes; place = 0 } → counts ≡ no_counts
+    → MatchOption r (reads_past_by finding.picking.order finding.anchored finding.built.patterns ≡ false) (BeginsPast seen finding at)
+    → kept_work r tape counts ≡ first_work finding at
+work-first seen finding at {counts = counts} None fresh none finds =
+    ap (λ (t : Taped). record { place = t.place; counts = counts }) fresh
+    ∙ ap (λ (c : Counts). record { place = 0; counts = c }) none
+    ∙ ap (λ (t : Bool). record { place = if t then at else 0; counts = no_counts }) (sym finds)
+work-first seen finding at {counts = counts} (Some o) fresh none begins =
+    let there = ap (λ (k : Cursor). k.at) begins.cursor in let hand = ap in_hand begins.byte in
+    ap (λ (k : ℕ). record { place = k; counts = counts }) (let e : reached_by o ≡ at = omega arith in e)
+    ∙ ap (λ (c : Counts). record { place = at; counts = c }) none
+    ∙ ap (λ (t : Bool). record { place = if t then at else 0; counts = no_counts })
+    (sym (ap (λ (f : Finding). reads_past_by f.picking.order f.anchored f.built.patterns) begins.finds ∙ begins.lawful.on))
 
 -- with a tape of which nothing was read
 pub kept-first : {A M : Type 0} {seen : A → AutomatonView} {finding : Finding} {bytes : List ℕ} {tape : Taped} {span : Span} {start : ℕ}

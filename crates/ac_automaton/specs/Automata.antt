@@ -1,5 +1,5 @@
 -- What an automaton was built with, and what contracts say of its states, by the node that a state stands for.
-use Rattle.std.specs.Prelude.{ℕ, Bool, List, ◌≡◌, ◌↔◌, ◌++◌, IfSome, IsTrue, map, Option}
+use Rattle.std.specs.Prelude.{ℕ, Bool, List, ◌≡◌, ◌↔◌, ◌++◌, IfSome, IsTrue, map, Option, Some}
 use Rattle.ac_automaton.specs.Util.{Built, MatchKind, StartKind, Counts, looks_by, matches, more_looks, No, Node, plain, plain_byte, step, Yes}
 use Rattle.ac_util.specs.declared.search.Anchored.{Anchored}
 use Rattle.ac_automaton.specs.declared.automaton.listing.MatchRest.{MatchRest}
@@ -49,6 +49,10 @@ pub record AutomatonView : Type 1 where
 -- the number stands for some node
 abbrev pub IsState : (ℕ → Node → Type 0) → ℕ → Type 0
 IsState stands s = (u : Node) × stands s u
+
+-- or for one that isn't dead
+abbrev pub IsLiveState : (ℕ → Node → Type 0) → ℕ → Type 0
+IsLiveState stands s = (v : List ℕ) × stands s (Some v)
 
 -- under some anchoring
 abbrev pub IsAnyState : AutomatonView → ℕ → Type 0

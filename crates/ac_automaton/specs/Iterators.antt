@@ -1,11 +1,11 @@
 -- What is seen of an iterator over matches.
-use Rattle.std.specs.Prelude.{◌≡◌, ℕ, ◌+◌, ◌-◌, ◌*◌, ◌<◌, ◌≤◌, Bool, false, true, ◌&&◌, nat_lt, length, MatchBool, List, Option, None, Some, IfSome, min}
+use Rattle.std.specs.Prelude.{◌≡◌, ℕ, ◌+◌, ◌-◌, ◌*◌, ◌<◌, ◌≤◌, Bool, false, true, ◌&&◌, ◌||◌, not, if◌then◌else◌, nat_lt, length, MatchBool, List, Option, None, Some, IfSome, min}
 use Rattle.std.specs.Iterator.{YieldsFirst}
 use Rattle.ac_util.specs.declared.search.Anchored.{Anchored}
-use Rattle.ac_automaton.specs.Util.{InputView, Built, Counts, from, input_of, is_leftmost, LeftmostFirst, LeftmostLongest, MatchKind, may_skip, next_match, No, Occurrence, pick, repeats, Search, shortest_len, Span, Standard, walk_after, Yes}
+use Rattle.ac_automaton.specs.Util.{InputView, Built, from, input_of, is_leftmost, LeftmostFirst, LeftmostLongest, MatchKind, may_skip, next_match, No, no_counts, Occurrence, pick, repeats, Search, shortest_len, Span, Standard, walk_after, Yes}
 use Rattle.ac_automaton.specs.declared.automaton.walk.TapedFinder.{TapedFinder}
 use Rattle.ac_automaton.specs.Finds.{Finding, Picking, picking_of, HasSearched}
-use Rattle.ac_automaton.specs.Scans.{Grows, Work, most_looks, nothing_done, search_of, work_of}
+use Rattle.ac_automaton.specs.Scans.{Grows, Work, most_looks, search_of, work_of}
 
 -- the matches still to come; the finds that it makes; the search that is left, and where the match before it ended, if
 -- there was one; where the whole span began; and what was done so far
@@ -27,15 +27,6 @@ walking_of finding bytes span last start work = record {
   start = start;
   work = work;
 }
-
--- a walk that begins: all its matches are still to come
-abbrev pub initial_walk : ℕ → Built → Bool → InputView → Walking
-initial_walk most built wants_prefilter input =
-    walking_of (record {
-      built = built;
-      anchored = input.anchored;
-      picking = picking_of most built.kind wants_prefilter input.earliest;
-    }) input.haystack (record { start = input.start; end = input.end }) None input.start nothing_done
 
 -- where a walk in a span with this end goes on once a find has answered: at the end of the match, or past that of
 -- the span
@@ -115,46 +106,61 @@ reads_past_by order anchored patterns = is_free anchored && (is_leftmost order &
 abbrev pub reads_past : Walking → Bool
 reads_past walking = reads_past_by walking.picking.order walking.left.anchored walking.left.patterns
 
--- what a walk by finds has counted since it was made: for each byte read it has looked at states at least once and at
--- most `most` times on the whole, or where it is anchored exactly once; under Standard it has read each byte of
--- the span at most once and called the prefilter at most as often; where it may not skip it has called no
--- prefilter; and unless it called one, or some pattern is empty, it has read each byte as far as the end of its
--- last match
-pub record IsPaidByFinds (walking : Walking) : Type 0 where
+-- what a walk has done that begins: nothing; one that reads on past its matches begins at its start
+abbrev pub first_work : Finding → ℕ → Work
+first_work finding start = record {
+  place = if reads_past_by finding.picking.order finding.anchored finding.built.patterns then start else 0;
+  counts = no_counts;
+}
+
+-- a walk that begins: all its matches are still to come
+abbrev pub walk_begun : Finding → InputView → Walking
+walk_begun finding input =
+    walking_of finding input.haystack (record { start = input.start; end = input.end }) None input.start (first_work finding input.start)
+
+abbrev pub initial_walk : ℕ → Built → Bool → InputView → Walking
+initial_walk most built wants_prefilter input =
+    walk_begun (record {
+      built = built;
+      anchored = input.anchored;
+      picking = picking_of most built.kind wants_prefilter input.earliest;
+    }) input
+
+-- whether a walk reads no byte of its span twice: under Standard a find reads none past its match; and one that reads on past its
+-- matches goes on from there
+abbrev pub reads_once : Walking → Bool
+reads_once walking = not (is_leftmost walking.picking.order) || reads_past walking
+
+-- how many looks a walk may have taken beyond those for each byte read: where it reads on past its matches one for each byte from its
+-- start to an offset
+abbrev pub looks_beyond : Walking → ℕ → ℕ
+looks_beyond walking to = if reads_past walking then min to walking.left.high - walking.start else 0
+
+-- what a walk has counted since it was made: for each byte read it has looked at states at least once and at most `most` times on the
+-- whole, or where it is anchored once, but for what is allowed as far as an offset; where it reads no byte twice it has read at most
+-- its span, and called the prefilter at most as often; where it may not skip it has called none; and unless it called one it has read
+-- each byte as far as the end of its last match if no pattern is empty, and where it reads on past its matches and none is left the
+-- whole span
+pub record IsPaid (walking : Walking) (to : ℕ) : Type 0 where
   pub looked : walking.work.counts.reads ≤ walking.work.counts.looks
-  pub looks : walking.work.counts.looks ≤ most_looks walking.left.anchored walking.picking.most * walking.work.counts.reads
-  pub reads : walking.picking.order ≡ Standard → walking.work.counts.reads ≤ walking.left.high - walking.start
-  pub calls : walking.picking.order ≡ Standard → walking.work.counts.calls ≤ walking.left.high - walking.start
+  pub looks : walking.work.counts.looks
+      ≤ most_looks walking.left.anchored walking.picking.most * walking.work.counts.reads + looks_beyond walking to
+  pub reads : reads_once walking ≡ true → walking.work.counts.reads ≤ walking.left.high - walking.start
+  pub calls : reads_once walking ≡ true → walking.work.counts.calls ≤ walking.left.high - walking.start
   pub quiet : may_skip walking.picking.wants_prefilter walking.left ≡ false → walking.work.counts.calls ≡ 0
   pub told : walking.work.counts.calls ≡ 0 → 0 < shortest_len walking.left.patterns
       → IfSome walking.last (λ e. e - walking.start ≤ walking.work.counts.reads)
+  pub rest : walking.work.counts.calls ≡ 0 → reads_past walking ≡ true → walking.left.high < walking.left.low
+      → walking.left.high - walking.start ≤ walking.work.counts.reads
 
--- and one that reads on past its matches: it has read each byte of the span at most once, and called the prefilter at most as
--- often; for each byte read it has looked at states at least once, and at most `most` times, and once for each byte up to the end of
--- its last match, on the whole
-pub record IsPaidOnce (walking : Walking) : Type 0 where
-  pub looked : walking.work.counts.reads ≤ walking.work.counts.looks
-  pub looks : walking.work.counts.looks
-      ≤ walking.picking.most * walking.work.counts.reads + (min walking.left.low walking.left.high - walking.start)
-  pub reads : walking.work.counts.reads ≤ walking.left.high - walking.start
-  pub calls : walking.work.counts.calls ≤ walking.left.high - walking.start
-  pub quiet : may_skip walking.picking.wants_prefilter walking.left ≡ false → walking.work.counts.calls ≡ 0
-  pub told : walking.work.counts.calls ≡ 0 → IfSome walking.last (λ e. e - walking.start ≤ walking.work.counts.reads)
-
--- what such a walk has counted once it has given the next match: the looks are paid by the bytes read, and by one for each byte up to
--- the end of the match before; and where there is none it has read the whole span, unless it called the prefilter
-pub record HasReadOnce (walking : Walking) (found : Option Occurrence) (counts : Counts) : Type 0 where
-  pub looks : counts.looks
-      ≤ walking.picking.most * counts.reads + (min walking.left.low walking.left.high - walking.start)
-  pub rest : found ≡ None → counts.calls ≡ 0 → walking.left.high - walking.start ≤ counts.reads
-
--- what a walk has counted
-pub record IsPaid (walking : Walking) : Type 0 where
-  pub finds : reads_past walking ≡ false → IsPaidByFinds walking
-  pub once : reads_past walking ≡ true → IsPaidOnce walking
+-- reading goes on where it had come to, and no more bytes were read than lie between: so none is paid for twice
+pub record MovesApart (work new_work : Work) : Type 0 where
+  pub onward : work.place ≤ new_work.place
+  pub reads : new_work.counts.reads ≤ work.counts.reads + (new_work.place - work.place)
 
 -- a walk has given the first of the matches that were left, or had none, and has gone on: it is the same walk,
--- it made one find or two unless it reads on past its matches, it has counted on from what it had, and all of that is paid
+-- it made one find or two unless it reads on past its matches, it has counted on from what it had, where it reads no byte twice it goes
+-- on where it had come to, and all is paid, as far as the end of the match before
 pub record GoesOn (walking : Walking) (found : Option Occurrence) (new_walking : Walking) : Type 0 where
   pub gives : YieldsFirst (λ (w : Walking). w.rest) walking found new_walking
   pub next : found ≡ next_match walking.picking.order walking.left walking.last
@@ -166,13 +172,17 @@ pub record GoesOn (walking : Walking) (found : Option Occurrence) (new_walking :
   }
   pub finds : reads_past walking ≡ false → Finds walking new_walking.work
   pub grows : Grows walking.work.counts new_walking.work.counts
-  pub once : reads_past walking ≡ true → HasReadOnce walking found new_walking.work.counts
-  pub paid : IsPaid new_walking
+  pub apart : reads_once walking ≡ true → MovesApart walking.work new_walking.work
+  pub paid : IsPaid new_walking walking.left.low
 
 -- a walk by finds as its iterator keeps it: it has gone as far as the low end of what is left, and under Standard it has
--- read nothing of that
+-- read nothing of that; and what it has counted is paid by the bytes read
 pub record IsUnderWay (walking : Walking) : Type 0 where
-  pub paid : IsPaidByFinds walking
+  pub looked : walking.work.counts.reads ≤ walking.work.counts.looks
+  pub looks : walking.work.counts.looks ≤ most_looks walking.left.anchored walking.picking.most * walking.work.counts.reads
+  pub quiet : may_skip walking.picking.wants_prefilter walking.left ≡ false → walking.work.counts.calls ≡ 0
+  pub told : walking.work.counts.calls ≡ 0 → 0 < shortest_len walking.left.patterns
+      → IfSome walking.last (λ e. e - walking.start ≤ walking.work.counts.reads)
   pub onward : walking.start ≤ walking.left.low
   pub legal : walking.left.low ≤ walking.left.high + 1
   pub beyond : IfSome walking.last (λ e. e ≤ walking.left.low)

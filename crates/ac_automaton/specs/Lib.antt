@@ -10,6 +10,7 @@ pub mod Iterators
 pub mod Onward
 pub mod Overlaps
 pub mod Prelude
+pub mod Reads
 pub mod Scans
 pub mod Sorted
 pub mod Streams

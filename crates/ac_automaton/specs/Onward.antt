@@ -1,20 +1,21 @@
 -- What a leftmost walk has come to that reads each byte once, and what it has counted.
-use Rattle.std.specs.Prelude.{◌≡◌, ℕ, ◌+◌, ◌-◌, ◌*◌, ◌<◌, ◌≤◌, Bool, false, true, ◌≢◌, ◌⊎◌, List, [], length, map, drop, slice_get, slice_index, Option, None, Some, IfSome, MatchBool, MatchOption, option_map}
-use Rattle.ac_automaton.specs.Util.{Built, Counts, credit, from, may_skip, No, Node, Occurrence, pattern_of, pick, Search, Span, Taped, usize_max}
+use Rattle.std.specs.Prelude.{◌≡◌, ℕ, ◌+◌, ◌-◌, ◌*◌, ◌<◌, ◌≤◌, Bool, false, true, List, [], length, map, drop, slice_get, slice_index, Option, None, Some, IfSome, MatchOption, option_map}
+use Rattle.ac_automaton.specs.Util.{Built, Counts, credit, from, may_skip, No, Occurrence, pattern_of, pick, Search, Span, Taped, usize_max}
 use Rattle.ac_util.specs.Prelude.{outward}
 use Rattle.ac_automaton.specs.declared.automaton.commits.ChainMatch.{ChainMatch}
 use Rattle.ac_automaton.specs.declared.automaton.onward.ChainRest.{ChainRest}
 use Rattle.ac_automaton.specs.declared.automaton.onward.Given.{Given}
 use Rattle.ac_automaton.specs.declared.automaton.onward.Onward.{Onward}
 use Rattle.ac_automaton.specs.declared.automaton.scan.Cursor.{Cursor}
-use Rattle.ac_automaton.specs.Automata.{AutomatonView, IsState, looks_of, matches_of, plain_of, step_of}
+use Rattle.ac_automaton.specs.Automata.{AutomatonView, plain_of, step_of}
 use Rattle.ac_automaton.specs.Commits.{AreCommits, chain_at, CommitsView, ending_in, reads_on}
 use Rattle.ac_automaton.specs.Finds.{Finding, finding_of, place_of}
-use Rattle.ac_automaton.specs.Iterators.{IsByFinds, IsPaidOnce, walking_of}
+use Rattle.ac_automaton.specs.Iterators.{IsByFinds, IsPaid, walking_of}
 use Rattle.ac_util.specs.Prefilters.{first_bytes_of}
 use Rattle.ac_util.specs.Prefilters.Skip.{FirstOf, Needle}
-use Rattle.ac_util.specs.Commits.{IsPickIn, IsSearchFor, Anything, NodeCommits, StandsAfter}
-use Rattle.ac_automaton.specs.Scans.{node_at, search_of, Skips, Work, work_of}
+use Rattle.ac_util.specs.Commits.{IsPickIn, Anything, NodeCommits, StandsAfter}
+use Rattle.ac_automaton.specs.Reads.{in_hand, IsAtStart, tried}
+use Rattle.ac_automaton.specs.Scans.{Scan, scan_of, search_of, Skips, Work, work_of}
 
 -- the matches of a chain that are still to be given
 abbrev pub pending : Built → List (List ChainMatch) → Option ChainRest → List Occurrence
@@ -47,53 +48,6 @@ abbrev pub TakesKnown : Built → List (List ChainMatch) → Option ChainRest �
 TakesKnown built chains old result new =
     MatchOption result ((new ≡ None) × (pending built chains old ≡ []))
     (λ m. (rest : ChainRest) × (old ≡ Some rest) × TakesFrom built chains rest m new)
-
--- a search for the patterns has these bytes from an offset on, as far as one of them
-pub record IsSearchOf (built : Built) (bytes : List ℕ) (to front : ℕ) (q : Search) : Type 0 where
-  pub is : IsSearchFor (plain_of built) q
-  pub cases : q.ignores_case ≡ built.ignores_case
-  pub within : front + to ≤ q.high
-  pub same : (k : ℕ) → k < to → slice_index q.haystack (front + k) ≡ slice_index bytes k
-
--- some automaton may read on up to an offset of a tape
-pub record MayReadAlive (a : AutomatonView) (tape : Taped) (to : ℕ) (cursor : Cursor) : Type 0 where
-  pub state : IsState (a.stands No) cursor.state
-  pub unread : tape.place ≤ cursor.at
-  pub inside : to ≤ length tape.bytes
-
--- it has read on from the node v alive, and so has any walk that stood there
-pub record ComesAlive (a : AutomatonView) (bytes : List ℕ) (to : ℕ) (v : List ℕ) (cursor new_cursor : Cursor) : Type 0 where
-  pub node : List ℕ
-  pub stands : a.stands No new_cursor.state (Some node)
-  pub onward : cursor.at ≤ new_cursor.at
-  pub within : cursor.at ≤ to → new_cursor.at ≤ to
-  pub along : (front : ℕ) (q : Search) → IsSearchOf a.built bytes to front q
-      → StandsAfter a.built.kind (plain_of a.built) q [] v (front + cursor.at)
-      → StandsAfter a.built.kind (plain_of a.built) q [] node (front + new_cursor.at)
-
--- and between its cursors it has come to no match
-abbrev pub PassesNone : AutomatonView → List ℕ → ℕ → List ℕ → Cursor → ℕ → Type 0
-PassesNone a bytes to v cursor at =
-    (front : ℕ) (q : Search) → IsSearchOf a.built bytes to front q
-    → StandsAfter a.built.kind (plain_of a.built) q [] v (front + cursor.at) → (k : ℕ) → cursor.at < k → k < at
-    → matches_of a.built No (node_at a.built.kind q (front + k)) ≡ []
-
--- as far as that, or to a byte before it that leads to the dead node; or if it stops at a match to a state that has some
-pub record StopsAlive (a : AutomatonView) (stops : Bool) (bytes : List ℕ) (to : ℕ) (v : List ℕ) (cursor new_cursor : Cursor)
-    (byte : Option ℕ) : Type 0 where
-  pub comes : ComesAlive a bytes to v cursor new_cursor
-  pub passes : stops ≡ true → PassesNone a bytes to v cursor new_cursor.at
-  pub over : MatchOption byte ((to ≤ new_cursor.at) ⊎ ((stops ≡ true) × (a.listed new_cursor.state ≢ [])))
-      (λ b. (new_cursor.at < to) × (b ≡ slice_index bytes new_cursor.at) × (step_of a.built No (Some comes.node) b ≡ None))
-
-abbrev pub ReadsAlive : AutomatonView → Bool → List ℕ → ℕ → Cursor → Cursor → Option ℕ → Type 0
-ReadsAlive a stops bytes to cursor new_cursor byte =
-    (v : List ℕ) → a.stands No cursor.state (Some v) → StopsAlive a stops bytes to v cursor new_cursor byte
-
--- how many bytes are in hand
-abbrev pub in_hand : Option ℕ → ℕ
-in_hand None = 0
-in_hand (Some byte) = 1
 
 -- what a walk has counted that began at `start` and has come to an offset: it has read no byte twice, and each one unless it called
 -- the prefilter; it has called that at most once for each, and not at all where it may not skip; each byte has brought a look; and the
@@ -129,26 +83,12 @@ module _ (a : AutomatonView) (q : Search) (start : ℕ) where
     pub begun : start ≤ q.low
     pub ordered : q.low ≤ q.high
 
-  -- it takes a byte to try: the one in hand, or else it reads the next one
-  pub record TakesByte (cursor : Cursor) (hand : Option ℕ) (work : Work) (byte : ℕ) (new_work : Work) : Type 0 where
-    pub comes : byte ≡ slice_index q.haystack cursor.at
-    pub before_end : cursor.at < q.high
-    pub place : new_work.place ≤ cursor.at + 1
-    pub reads : new_work.counts.reads + in_hand hand ≡ work.counts.reads + 1
-    pub looks : new_work.counts.looks ≡ work.counts.looks
-    pub calls : new_work.counts.calls ≡ work.counts.calls
-
-  -- how many looks it takes to try the byte in hand
-  abbrev pub tried : List ℕ → Option ℕ → ℕ
-  tried v None = 0
-  tried v (Some byte) = looks_of a.most a.built No (Some v) byte
-
   -- it reads on no further: the byte in hand leads to the dead node, or the span is read to its end
   pub record HasStopped (cursor : Cursor) (byte : Option ℕ) (work : Work) : Type 0 where
     pub node : List ℕ
     pub stands : StandsBy [] cursor byte node
     pub over : MatchOption byte (cursor.at ≡ q.high) (λ b. step_of a.built No (Some node) b ≡ None)
-    pub counted : HasCounted cursor byte node (tried node byte) work.counts
+    pub counted : HasCounted cursor byte node (tried (scan_of a No false) node byte) work.counts
     pub unread : work.place ≤ cursor.at + in_hand byte
     pub begun : start ≤ q.low
 
@@ -156,65 +96,6 @@ module _ (a : AutomatonView) (q : Search) (start : ℕ) where
 abbrev pub IsOnwardIn : AutomatonView → Taped → ℕ → ℕ → ℕ → List Occurrence → Cursor → Option ℕ → Counts → Type 0
 IsOnwardIn a tape low end start ms cursor byte counts =
     IsOnward a (search_of a.built No tape.bytes low end) start ms cursor byte (work_of tape counts)
-
--- some walk has come to a cursor, and may read on up to an end
-pub record MayReadOn (a : AutomatonView) (tape : Taped) (end : ℕ) (cursor : Cursor) (byte : Option ℕ) (counts : Counts) : Type 0 where
-  pub low : ℕ
-  pub start : ℕ
-  pub onward : IsOnwardIn a tape low end start [] cursor byte counts
-  pub on : reads_on a.built ≡ true
-  pub inside : end ≤ length tape.bytes
-
--- some walk has come to a cursor with nothing in hand, and may read on up to an offset within its span
-pub record MayReadUpTo (a : AutomatonView) (tape : Taped) (to : ℕ) (cursor : Cursor) (counts : Counts) : Type 0 where
-  pub low : ℕ
-  pub end : ℕ
-  pub start : ℕ
-  pub onward : IsOnwardIn a tape low end start [] cursor None counts
-  pub on : reads_on a.built ≡ true
-  pub within : to ≤ end
-  pub inside : end ≤ length tape.bytes
-
--- any such walk has read on as far as that, or to a byte before it that leads to the dead node
-pub record ReadsUpTo (a : AutomatonView) (tape : Taped) (to : ℕ) (cursor : Cursor) (counts : Counts) (new_cursor : Cursor)
-    (byte : Option ℕ) (new_tape : Taped) (new_counts : Counts) : Type 0 where
-  pub bytes : new_tape.bytes ≡ tape.bytes
-  pub onward : cursor.at ≤ new_cursor.at
-  pub reached : byte ≡ None → to ≤ new_cursor.at
-  pub reads : (low end start : ℕ) → to ≤ end → end ≤ length tape.bytes → IsOnwardIn a tape low end start [] cursor None counts
-      → MatchOption byte
-      (IsOnward a (search_of a.built No tape.bytes low end) start [] new_cursor None (work_of new_tape new_counts))
-      (λ b. HasStopped a (search_of a.built No tape.bytes low end) start new_cursor (Some b) (work_of new_tape new_counts))
-
--- any such walk has read on, as far as it reads
-pub record ReadsOn (a : AutomatonView) (tape : Taped) (end : ℕ) (cursor : Cursor) (byte : Option ℕ) (counts : Counts)
-    (new_cursor : Cursor) (new_byte : Option ℕ) (new_tape : Taped) (new_counts : Counts) : Type 0 where
-  pub bytes : new_tape.bytes ≡ tape.bytes
-  pub stops : (low start : ℕ) → IsOnwardIn a tape low end start [] cursor byte counts
-      → HasStopped a (search_of a.built No tape.bytes low end) start new_cursor new_byte (work_of new_tape new_counts)
-
--- any such walk has read on by a byte at least, or to one that leads to the dead node
-pub record ReadsFurther (a : AutomatonView) (tape : Taped) (to : ℕ) (cursor : Cursor) (counts : Counts) (new_cursor : Cursor)
-    (byte : Option ℕ) (new_tape : Taped) (new_counts : Counts) : Type 0 where
-  pub bytes : new_tape.bytes ≡ tape.bytes
-  pub onward : cursor.at ≤ new_cursor.at
-  pub moved : byte ≡ None → cursor.at < new_cursor.at
-  pub reads : (low end start : ℕ) → to ≤ end → end ≤ length tape.bytes → IsOnwardIn a tape low end start [] cursor None counts
-      → MatchOption byte
-      (IsOnward a (search_of a.built No tape.bytes low end) start [] new_cursor None (work_of new_tape new_counts))
-      (λ b. HasStopped a (search_of a.built No tape.bytes low end) start new_cursor (Some b) (work_of new_tape new_counts))
-
--- any walk has tried the byte in hand, if there was one: then nothing is in hand, or it leads to the dead node
-abbrev pub TriesByte : AutomatonView → Cursor → Option ℕ → Counts → Bool → Cursor → Option ℕ → Counts → Type 0
-TriesByte a cursor byte counts result new_cursor new_byte new_counts =
-    (tape : Taped) (low end start : ℕ) → end ≤ length tape.bytes → IsOnwardIn a tape low end start [] cursor byte counts
-    → MatchBool result
-    (IsOnwardIn a tape low end start [] new_cursor new_byte new_counts)
-    (HasStopped a (search_of a.built No tape.bytes low end) start new_cursor new_byte (work_of tape new_counts))
-
--- a state is the start, whatever it stands for
-abbrev pub IsAtStart : AutomatonView → ℕ → Type 0
-IsAtStart a s = (u : Node) → a.stands No s u → u ≡ Some []
 
 -- a walk may skip to these first bytes
 abbrev pub SkipsToFirst : AutomatonView → List ℕ → Type 0
@@ -296,6 +177,10 @@ module _ {A M : Type 0} (seen : A → AutomatonView) (o : Onward A M) where
   abbrev pub chains : List (List ChainMatch)
   chains = o.core.commits.now.chains
 
+  -- how it reads
+  abbrev pub walk_of : Scan
+  walk_of = scan_of view No false
+
   -- the search of a span of some bytes
   abbrev pub search_in : List ℕ → ℕ → ℕ → Search
   search_in bytes low end = search_of view.built No bytes low end
@@ -323,19 +208,14 @@ module _ {A M : Type 0} (seen : A → AutomatonView) (o : Onward A M) where
     pub skips : SkipsToOnly view needle
     pub empty : o.byte ≡ None
     pub before_end : o.cursor.at < end
-    pub at_start : IsAtStart view o.cursor.state
+    pub at_start : IsAtStart walk_of o.cursor.state
 
-  -- it has come to such a place, or has read on as far as it reads
-  pub record ReadsToStart (tape : Taped) (end : ℕ) (counts : Counts) (result : Bool) (new : Onward A M) (new_tape : Taped)
-      (new_counts : Counts) : Type 0 where
-    pub bytes : new_tape.bytes ≡ tape.bytes
-    pub empty : result ≡ true → new.byte ≡ None
-    pub before_end : result ≡ true → new.cursor.at < end
-    pub at_start : result ≡ true → IsAtStart view new.cursor.state
-    pub reads : (low start : ℕ) → IsOnwardIn view tape low end start [] o.cursor o.byte counts
-        → MatchBool result
-        (IsOnward view (search_in tape.bytes low end) start [] new.cursor new.byte (work_of new_tape new_counts))
-        (HasStopped view (search_in tape.bytes low end) start new.cursor new.byte (work_of new_tape new_counts))
+  -- some walk has come to its cursor, and may find its next match up to an end
+  pub record MayFindOn (tape : Taped) (end : ℕ) (counts : Counts) : Type 0 where
+    pub low : ℕ
+    pub start : ℕ
+    pub onward : IsOnwardIn view tape low end start [] o.cursor o.byte counts
+    pub inside : end ≤ length tape.bytes
 
   -- in each search where it has come to its cursor, it has given that
   abbrev pub GivesFrom : Taped → ℕ → Counts → Option Occurrence → Onward A M → Taped → Counts → Type 0
@@ -381,6 +261,15 @@ module _ {A M : Type 0} (seen : A → AutomatonView) (o : Onward A M) where
       → HasGiven view chains (search_in tape.bytes span.start span.end) start found new.rest new.cursor new.byte
       (work_of new_tape new_counts)
 
+-- up to where a walk has read: the offset of its cursor, and the byte in hand
+abbrev pub reached_by : {A M : Type 0} → Onward A M → ℕ
+reached_by o = o.cursor.at + in_hand o.byte
+
+-- it has read on, or stands where it stood, and has read no more bytes than that
+pub record MovesOnward {A M : Type 0} (old : Onward A M) (counts : Counts) (new : Onward A M) (new_counts : Counts) : Type 0 where
+  pub onward : reached_by old ≤ reached_by new
+  pub reads : new_counts.reads ≤ counts.reads + (reached_by new - reached_by old)
+
 -- a walk as its iterator keeps it that reads on past its matches: as far as its span isn't done it is on its way there, and then what
 -- it has counted is paid
 pub record IsReadingPast {A M : Type 0} (seen : A → AutomatonView) (o : Onward A M) (finding : Finding) (tape : Taped) (span : Span)
@@ -394,8 +283,12 @@ pub record IsReadingPast {A M : Type 0} (seen : A → AutomatonView) (o : Onward
   pub onward : span.start ≤ span.end
       → IsOnwardIn (seen o.core.automaton.now) tape span.start span.end start
       (pending (seen o.core.automaton.now).built o.core.commits.now.chains o.rest) o.cursor o.byte counts
-  pub rest : span.end < span.start → counts.calls ≡ 0 → span.end - start ≤ counts.reads
-  pub ended : span.end < span.start → IsPaidOnce (walking_of finding tape.bytes span last start (work_of tape counts))
+  pub ended : span.end < span.start → IsPaid (walking_of finding tape.bytes span last start (record { place = reached_by o; counts = counts })) span.start
+
+-- the work of a walk: that of its tape, or where it reads on past its matches up to where it has read, by whichever tapes
+abbrev pub kept_work : {A M : Type 0} → Option (Onward A M) → Taped → Counts → Work
+kept_work None tape counts = work_of tape counts
+kept_work (Some o) tape counts = record { place = reached_by o; counts = counts }
 
 -- a walk as its iterator keeps it: one by finds is under way, and one that reads on past its matches stands somewhere
 pub record IsKept {A M : Type 0} (seen : A → AutomatonView) (finding : Finding) (tape : Taped) (span : Span) (last : Option ℕ) (start : ℕ)

@@ -1,11 +1,11 @@
 -- What a search has done with its tape; a scan: an automaton under an anchoring, the text that it reads, how far it has come
 -- in it, and how it skips.
-use Rattle.std.specs.Prelude.{◌≡◌, ◌≢◌, ℕ, ◌+◌, ◌-◌, ◌*◌, ◌<◌, ◌≤◌, Bool, false, true, List, None, length, max, ◌⊎◌, ◌↔◌, IsTrue, [], Some, Option}
+use Rattle.std.specs.Prelude.{◌≡◌, ◌≢◌, ℕ, ◌+◌, ◌-◌, ◌*◌, ◌<◌, ◌≤◌, Bool, false, List, None, length, max, ◌⊎◌, ◌↔◌, IsTrue, [], Some, Option}
 use Rattle.ac_util.specs.declared.search.Anchored.{Anchored}
 use Rattle.ac_automaton.specs.Util.{Built, Counts, MatchKind, No, no_counts, Node, plain_patterns, reached, Search, Taped, text, Yes, credit, may_skip, Span, FirstOf, IsSkipFor, Skip, skip_for}
 use Rattle.ac_automaton.specs.declared.automaton.scan.Cursor.{Cursor}
 use Rattle.ac_automaton.specs.declared.automaton.scan.Scanner.{Scanner}
-use Rattle.ac_automaton.specs.Automata.{AutomatonView, IsState, matches_of}
+use Rattle.ac_automaton.specs.Automata.{AutomatonView, matches_of}
 use Rattle.ac_util.specs.Prefilters.Skip.{Needle}
 
 -- how many looks a search may take for each byte read, where an unanchored one may take `most`: an anchored one
@@ -77,23 +77,25 @@ pub record HasRead (most : ℕ) (skips : Bool) (start end : ℕ) (work new_work 
   pub quiet : skips ≡ false → new_work.counts.calls ≡ work.counts.calls
 
 -- an automaton under an anchoring: the nodes for which its states stand, and their match lists; what it was built from;
--- the anchoring; how many looks it may take for each byte where it isn't anchored, and whether it was built to have a
--- prefilter
+-- the anchoring, and whether it is to read no further than to a match; how many looks it may take for each byte where it
+-- isn't anchored, and whether it was built to have a prefilter
 pub record Scan : Type 1 where
   pub stands : ℕ → Node → Type 0
   pub listed : ℕ → List ℕ
   pub built : Built
   pub anchored : Anchored
+  pub stops : Bool
   pub most : ℕ
   pub wants_prefilter : Bool
 
 -- that of an automaton
-abbrev pub scan_of : AutomatonView → Anchored → Scan
-scan_of a anchored = record {
+abbrev pub scan_of : AutomatonView → Anchored → Bool → Scan
+scan_of a anchored stops = record {
   stands = a.stands anchored;
   listed = a.listed;
   built = a.built;
   anchored = anchored;
+  stops = stops;
   most = a.most;
   wants_prefilter = a.wants_prefilter;
 }
@@ -105,7 +107,7 @@ pub record ScannerView : Type 1 where
 
 -- that of a scanner over an automaton of which this is seen
 abbrev pub scanner : {A M : Type 0} → (A → AutomatonView) → Scanner A M → ScannerView
-scanner seen s = record { scan = scan_of (seen s.automaton.now) s.anchored; span = s.span }
+scanner seen s = record { scan = scan_of (seen s.automaton.now) s.anchored s.stops; span = s.span }
 
 -- what a scan reads: the bytes of its tape, and where in these the span starts that it searches, and where that ends
 pub record ScanText : Type 0 where
@@ -164,10 +166,6 @@ module _ (s : Scan) (t : ScanText) where
     pub scans : ScansTo from work cursor.at new_work
     pub none : NoMatchBetween from cursor.at
 
-  -- the automaton is at its start at each offset from one to another
-  abbrev pub StaysAtStart : ℕ → ℕ → Type 0
-  StaysAtStart from to = (k : ℕ) → from ≤ k → k ≤ to → node k ≡ Some []
-
 -- a scanner may read on from a cursor: some text with the bytes of its tape has led there, the automaton isn't dead, and
 -- a byte of the span is left, which the tape has not lent yet
 pub record MayAdvance (v : ScannerView) (tape : Taped) (cursor : Cursor) : Type 0 where
@@ -185,11 +183,6 @@ pub record Advances (v : ScannerView) (cursor : Cursor) (tape : Taped) (counts :
   pub passes : (t : ScanText) → t.bytes ≡ tape.bytes → IsAlive v.scan t cursor
       → PassesNoMatch v.scan t cursor.at (work_of tape counts) new_cursor (work_of new_tape new_counts)
 
--- the byte at a cursor was read, and leads to this state
-abbrev pub Follows : ScannerView → Cursor → Taped → Counts → ℕ → Taped → Counts → Type 0
-Follows v cursor tape counts state new_tape new_counts =
-    Advances v cursor tape counts (record { state = state; at = cursor.at + 1 }) new_tape new_counts
-
 -- nothing is left to read up to an end, or nothing more is found
 abbrev pub IsOver : ℕ → ℕ → Node → Type 0
 IsOver end at u = (end ≤ at) ⊎ (u ≡ None)
@@ -197,22 +190,6 @@ IsOver end at u = (end ≤ at) ⊎ (u ≡ None)
 -- a test tells whether that is so of a scanner
 abbrev pub TellsOver : ScannerView → Cursor → Bool → Type 0
 TellsOver v cursor result = (u : Node) → v.scan.stands cursor.state u → IsTrue result ↔ IsOver v.span.end cursor.at u
-
--- a scanner has come to the end of its span, or to a state that is dead or has matches
-abbrev pub Stops : ScannerView → Cursor → Type 0
-Stops v cursor =
-    cursor.at < v.span.end → (u : Node) → v.scan.stands cursor.state u → (u ≡ None) ⊎ (v.scan.listed cursor.state ≢ [])
-
--- a scanner may read on from a cursor in its span: its state stands for some node, and the tape has lent nothing past it
-pub record MayRead (v : ScannerView) (tape : Taped) (cursor : Cursor) : Type 0 where
-  pub state : IsState v.scan.stands cursor.state
-  pub unread : tape.place ≤ cursor.at
-  pub inside : v.span.end ≤ length tape.bytes
-
--- a test tells whether nothing is to be read on from a state: it is dead, or has matches where the search stops at one
-abbrev pub TellsStop : Scan → Bool → ℕ → Bool → Type 0
-TellsStop s stops state result =
-    (u : Node) → s.stands state u → IsTrue result ↔ ((u ≡ None) ⊎ ((stops ≡ true) × (s.listed state ≢ [])))
 
 -- how an automaton skips that was built to have a prefilter, or not
 abbrev pub skip_with : Bool → Built → Option Skip

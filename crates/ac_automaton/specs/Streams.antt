@@ -10,7 +10,9 @@ use Rattle.ac_automaton.specs.declared.automaton.onward.Given.{Given}
 use Rattle.ac_automaton.specs.Automata.{AutomatonView, plain_of}
 use Rattle.ac_automaton.specs.Commits.{CommitsView, HasCommits}
 use Rattle.ac_automaton.specs.Onward.{GivesAt, IsRestBefore, pending}
-use Rattle.ac_automaton.specs.Scans.{search_of}
+use Rattle.ac_automaton.specs.Reads.{HasReadOn}
+use Rattle.ac_automaton.specs.Scans.{Scan, search_of, Work}
+use Rattle.ac_automaton.specs.declared.automaton.scan.Cursor.{Cursor}
 
 -- what its automaton was built from; all bytes that were read so far; how many of their matches were given; where in the
 -- stream the buffer begins, and from where on its bytes are kept; whether the stream goes on; how many bytes the buffer has
@@ -321,3 +323,10 @@ items_left s = items_in s.stream.phase s.stream.given
 -- one that begins
 abbrev pub initial_reading : Built → Reading → StreamReading
 initial_reading built reader = record { stream = initial_stream built; reader = reader }
+
+-- a search has read on in some bytes up to their end, or as far as it reads
+pub record ReadsThrough (s : Scan) (bytes : List ℕ) (cursor new_cursor : Cursor) (hand : Option ℕ) : Type 0 where
+  pub work : Work
+  pub new_work : Work
+  pub read : HasReadOn s (length bytes) (record { bytes = bytes; cursor = cursor; hand = None; work = work })
+      (record { bytes = bytes; cursor = new_cursor; hand = hand; work = new_work })

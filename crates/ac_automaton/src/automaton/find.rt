@@ -1,5 +1,5 @@
 //! The core of every find.
-ghost use Rattle.std.specs.Prelude.{◌≡◌, ◌<◌, ◌↔◌, false, IsTrue, MatchOption, None};
+ghost use Rattle.std.specs.Prelude.{◌≡◌, ◌<◌, ◌↔◌, false, true, IsTrue, MatchOption, None};
 ghost use Rattle.ac_automaton.specs.Util.{find_result, Standard, start_refusal};
 ghost use Rattle.ac_automaton.specs.Answers.{BeginsBy};
 ghost use Rattle.ac_automaton.specs.Finds.{finding_of, FindsIn, MaySearch, between, input_over};
@@ -9,7 +9,7 @@ ghost use Rattle.ac_automaton.specs.Onward.{BeginsPast};
 use super::Automaton;
 use super::onward::Onward;
 use super::scan::{Cursor, Scanner};
-use super::skip::SkipBudget;
+use super::skip::{SkipBudget, ToStart};
 use ac_util::error::MatchError;
 use ac_util::looks::{Looks, Tape};
 use ac_util::prefilter::{Needle, Prefilter};
@@ -163,6 +163,7 @@ impl<'a, A: Automaton> Finder<'a, A> {
         let scanner = Scanner {
             automaton: self.automaton,
             anchored: self.anchored,
+            stops: true,
             span,
         };
         let start = Cursor {
@@ -186,6 +187,7 @@ impl<'a, A: Automaton> Finder<'a, A> {
         let scanner = Scanner {
             automaton: self.automaton,
             anchored: self.anchored,
+            stops: true,
             span,
         };
         let mut start = Cursor {
@@ -196,7 +198,7 @@ impl<'a, A: Automaton> Finder<'a, A> {
         match self.prefilter {
             Some(prefilter) if span.start < span.end => match prefilter {
                 Prefilter::Bytes(first) => {
-                    scanner.skip_ahead(*first, here, &mut self.budget, tape, looks);
+                    scanner.read_ahead(Some(*first), here, &mut self.budget, tape, looks);
                     scanner.find_on(stops, *here, tape, looks)
                 }
                 Prefilter::Needle(needle) => {
@@ -223,7 +225,8 @@ impl<'a, A: Automaton> Scanner<'a, A> {
         tape: &mut Tape<'_>,
         looks: &mut Looks,
     ) -> Option<Match>
-        requires { MayFind (scanner A.seen self.now) stops tape.old cursor }
+        requires reads { self.now.stops ≡ true }
+        requires may { MayFind (scanner A.seen self.now) stops tape.old cursor }
         ensures { FindsOn (scanner A.seen self.now) stops cursor tape.old looks.old result tape.new looks.new }
     {
         // A copy, which stays in registers.
@@ -231,7 +234,8 @@ impl<'a, A: Automaton> Scanner<'a, A> {
         let here = &mut copied;
         let mut last = self.match_at(here);
         while !self.is_decided(stops, here, &last) {
-            self.read_ahead(here, tape, looks);
+            let dead = self.read(here, tape, looks);
+            here.enter(dead);
             last = self.match_at(here).or(last);
         }
         last
@@ -259,15 +263,14 @@ impl<'a, A: Automaton> Scanner<'a, A> {
         tape: &mut Tape<'_>,
         looks: &mut Looks,
     ) -> Option<Match>
+        requires reads { self.now.stops ≡ true }
         requires needle { SkipsToNeedle (scanner A.seen self.now).scan needle.now }
         requires begins { MayBegin (scanner A.seen self.now) stops tape.old cursor.old }
         ensures { FindsOn (scanner A.seen self.now) stops cursor.old tape.old looks.old result tape.new looks.new }
     {
-        while !budget.is_left() || !self.automaton.is_start(cursor.state) {
-            self.read_rest(cursor, budget, tape, looks);
-            if cursor.at >= self.span.end || self.automaton.is_match_or_dead(cursor.state) {
-                return self.find_on(stops, *cursor, tape, looks);
-            }
+        if let ToStart::Stopped(dead) = self.read_to_start(cursor, budget, tape, looks) {
+            cursor.enter(dead);
+            return self.find_on(stops, *cursor, tape, looks);
         }
         let from = cursor.at;
         let found = tape.find_needle(needle, from, self.span.end, looks);

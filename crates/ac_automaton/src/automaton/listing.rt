@@ -1,5 +1,5 @@
 //! The listing of all occurrences: how far it has come in its span, and how it goes on from item to item.
-ghost use Rattle.std.specs.Prelude.{◌≡◌, IfSome};
+ghost use Rattle.std.specs.Prelude.{◌≡◌, true, IfSome};
 ghost use Rattle.ac_automaton.specs.Util.{first_bytes_of};
 
 use super::Automaton;
@@ -90,6 +90,7 @@ impl<'a, A: Automaton> Scanner<'a, A> {
         tape: &mut Tape<'_>,
         looks: &mut Looks,
     ) -> Option<Match>
+        requires stops { self.now.stops ≡ true }
         requires skips { IfSome first (λ f. SkipsTo (scanner A.seen self.now).scan (first_bytes_of f)) }
         requires may { MayList (scanner A.seen self.now) tape.old reached.old }
         ensures { ListsOn (scanner A.seen self.now) reached.old tape.old looks.old result reached.new tape.new looks.new }
@@ -105,7 +106,7 @@ impl<'a, A: Automaton> Scanner<'a, A> {
             if self.is_over(&here) {
                 return None;
             }
-            self.read_or_skip(first, &mut here, budget, tape, looks);
+            self.read_ahead(first, &mut here, budget, tape, looks);
             *reached = Reached::new(here.state, here.at);
         }
     }

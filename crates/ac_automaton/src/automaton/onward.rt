@@ -2,19 +2,20 @@
 //!
 //! A leftmost match is known only once bytes after it were read. Such a walk doesn't read them again: the commit of the state
 //! where it stands says which matches lie in them, and at which state it goes on.
-ghost use Rattle.std.specs.Prelude.{◌≡◌, ◌<◌, ◌≤◌, [], false, true, length, option_map, IfSome, Some, None};
+ghost use Rattle.std.specs.Prelude.{◌≡◌, ◌<◌, ◌≤◌, [], false, true, is_none, length, option_map, IfSome, Some, None};
 ghost use Rattle.ac_util.specs.Prefilters.{first_bytes_of};
 ghost use Rattle.ac_automaton.specs.Util.{No, pattern_of, usize_max};
 ghost use Rattle.ac_automaton.specs.Automata.{IsState};
 ghost use Rattle.ac_automaton.specs.Commits.{AreCommits, reads_on};
-ghost use Rattle.ac_automaton.specs.Finds.{finding_of, place_of};
+ghost use Rattle.ac_automaton.specs.Finds.{between, finding_of, place_of};
+ghost use Rattle.ac_automaton.specs.Reads.{HasReadOn, MayRead, ReadsOn, hand_of, point};
 ghost use Rattle.ac_automaton.specs.Scans.{Grows};
-ghost use Rattle.ac_automaton.specs.Onward.{BeginsPast, GivesFrom, GivesThere, GivesOf, GoesOnward, IsAtStart, IsLawful, KeepsOnward, MayFindOnly, MayGive, MayGoOnward, MayReadAlive, MayReadOn, MayReadUpTo, MayTake, MayTakeFrom, ReadsAlive, ReadsFurther, ReadsOn, ReadsToStart, ReadsUpTo, SkipsToFirst, SkipsToOnly, TakesKnown, TakesNext, TriesByte};
+ghost use Rattle.ac_automaton.specs.Onward.{BeginsPast, GivesFrom, GivesOf, GivesThere, GoesOnward, IsLawful, KeepsOnward, MayFindOn, MayFindOnly, MayGive, MayGoOnward, MayTake, MayTakeFrom, MovesOnward, SkipsToFirst, SkipsToOnly, TakesKnown, TakesNext, walk_of};
 
 use super::Automaton;
 use super::commits::{Chains, Commits};
-use super::scan::{Cursor, Scanner};
-use super::skip::SkipBudget;
+use super::scan::{Cursor, Dead, Scanner};
+use super::skip::{SkipBudget, ToStart};
 use ac_util::looks::{Looks, Tape};
 use ac_util::prefilter::{FirstBytes, Needle};
 use ac_util::primitives::{PatternID, StateID};
@@ -109,6 +110,7 @@ impl<'a, A: Automaton> Onward<'a, A> {
     ) -> Option<Match>
         requires may { MayGoOnward A.seen self.old span tape.old looks.old }
         ensures grows { Grows looks.old looks.new }
+        ensures moves { MovesOnward self.old looks.old self.new looks.new }
         ensures same { KeepsOnward self.old self.new }
         ensures bytes { tape.new.bytes ≡ tape.old.bytes }
         ensures gives { GoesOnward A.seen self.old span tape.old looks.old result self.new tape.new looks.new }
@@ -116,11 +118,30 @@ impl<'a, A: Automaton> Onward<'a, A> {
         if let Some(found) = self.take_known() {
             return Some(found);
         }
-        if let Some(needle) = self.needle {
-            return self.give_needle(needle, span.end, tape, looks);
+        self.find_on(span.end, tape, looks)
+    }
+
+    /// Returns the next match up to an end, where none of a chain is left, and moves on.
+    #[inline]
+    fn find_on(&mut self, end: usize, tape: &mut Tape<'_>, looks: &mut Looks) -> Option<Match>
+        requires lawful { IsLawful A.seen self.old }
+        requires may { MayFindOn A.seen self.old tape.old end looks.old }
+        ensures grows { Grows looks.old looks.new }
+        ensures moves { MovesOnward self.old looks.old self.new looks.new }
+        ensures same { KeepsOnward self.old self.new }
+        ensures bytes { tape.new.bytes ≡ tape.old.bytes }
+        ensures gives { GivesFrom A.seen self.old tape.old end looks.old result self.new tape.new looks.new }
+    {
+        if !self.try_byte(end, tape, looks) {
+            return self.give();
         }
-        self.read_on(span.end, tape, looks);
-        self.give()
+        match self.needle {
+            Some(needle) => self.give_needle(needle, end, tape, looks),
+            None => {
+                self.read_on(end, tape, looks);
+                self.give()
+            }
+        }
     }
 
     /// Returns the next match of the chain, if one is left.
@@ -137,7 +158,7 @@ impl<'a, A: Automaton> Onward<'a, A> {
         )
     }
 
-    /// Gives the next match of the only pattern, and goes on after it.
+    /// Gives the next match of the only pattern, and goes on after it. Nothing is in hand.
     #[inline(never)]
     fn give_needle(
         &mut self,
@@ -148,41 +169,22 @@ impl<'a, A: Automaton> Onward<'a, A> {
     ) -> Option<Match>
         requires lawful { IsLawful A.seen self.old }
         requires needle { SkipsToOnly (A.seen self.old.core.automaton.now) needle.now }
-        requires may { MayReadOn (A.seen self.old.core.automaton.now) tape.old end self.old.cursor self.old.byte looks.old }
+        requires empty { self.old.byte ≡ None }
+        requires may { MayFindOn A.seen self.old tape.old end looks.old }
         ensures grows { Grows looks.old looks.new }
+        ensures moves { MovesOnward self.old looks.old self.new looks.new }
         ensures same { KeepsOnward self.old self.new }
         ensures bytes { tape.new.bytes ≡ tape.old.bytes }
         ensures gives { GivesFrom A.seen self.old tape.old end looks.old result self.new tape.new looks.new }
     {
-        if self.read_to_start(end, tape, looks) {
-            return self.find_needle(needle, end, tape, looks);
-        }
-        self.give()
-    }
-
-    /// Reads on up to where a call of the prefilter pays and may be made: the automaton is at its start with nothing in hand,
-    /// and a byte is left. Returns whether it has come to such a place; else it has read on as `read_on` does.
-    fn read_to_start(&mut self, end: usize, tape: &mut Tape<'_>, looks: &mut Looks) -> bool
-        requires may { MayReadOn (A.seen self.old.core.automaton.now) tape.old end self.old.cursor self.old.byte looks.old }
-        ensures grows { Grows looks.old looks.new }
-        ensures same { KeepsOnward self.old self.new }
-        ensures rest { self.new.rest ≡ self.old.rest }
-        ensures reads { ReadsToStart A.seen self.old tape.old end looks.old result self.new tape.new looks.new }
-    {
-        if !self.try_byte(looks) {
-            return false;
-        }
-        while self.cursor.at < end {
-            if self.is_to_skip() {
-                return true;
-            }
-            let byte = self.read_rest(end, tape, looks);
-            if byte.is_some() {
-                self.byte = byte;
-                return false;
+        let scanner = self.core.scanner(false, end);
+        match scanner.read_to_start(&mut self.cursor, &mut self.budget, tape, looks) {
+            ToStart::There => self.find_needle(needle, end, tape, looks),
+            ToStart::Stopped(dead) => {
+                self.byte = byte_of(dead);
+                self.give()
             }
         }
-        false
     }
 
     /// Gives the next match of the only pattern, as the prefilter finds it, and goes on after it.
@@ -194,9 +196,11 @@ impl<'a, A: Automaton> Onward<'a, A> {
         tape: &Tape<'_>,
         looks: &mut Looks,
     ) -> Option<Match>
+        requires lawful { IsLawful A.seen self.old }
         requires finds { MayFindOnly A.seen self.old end needle.now }
-        requires may { MayReadOn (A.seen self.old.core.automaton.now) tape.now end self.old.cursor self.old.byte looks.old }
+        requires may { MayRead (walk_of A.seen self.old) end (point self.old.cursor self.old.byte tape.now looks.old) }
         ensures grows { Grows looks.old looks.new }
+        ensures moves { MovesOnward self.old looks.old self.new looks.new }
         ensures same { KeepsOnward self.old self.new }
         ensures gives { GivesFrom A.seen self.old tape.now end looks.old result self.new tape.now looks.new }
     {
@@ -211,34 +215,15 @@ impl<'a, A: Automaton> Onward<'a, A> {
         found
     }
 
-    /// Reads on as far as it has to: up to a byte that leads to the dead state, which it then has in hand, or up to an end.
-    fn read_on(&mut self, end: usize, tape: &mut Tape<'_>, looks: &mut Looks)
-        requires skips { IfSome self.old.first (λ f. SkipsToFirst (A.seen self.old.core.automaton.now) (first_bytes_of f)) }
-        requires may { MayReadOn (A.seen self.old.core.automaton.now) tape.old end self.old.cursor self.old.byte looks.old }
-        ensures grows { Grows looks.old looks.new }
-        ensures same { KeepsOnward self.old self.new }
-        ensures rest { self.new.rest ≡ self.old.rest }
-        ensures reads { ReadsOn (A.seen self.old.core.automaton.now) tape.old end self.old.cursor self.old.byte looks.old
-            self.new.cursor self.new.byte tape.new looks.new }
-    {
-        if !self.try_byte(looks) {
-            return;
-        }
-        self.byte = self.read_or_skip(end, tape, looks);
-    }
-
     /// Tries the byte in hand, if there is one. Returns whether nothing is in hand then: where the byte leads to the dead state it
     /// stays.
     #[inline]
-    fn try_byte(&mut self, looks: &mut Looks) -> bool
-        requires on { reads_on (A.seen self.old.core.automaton.now).built ≡ true }
-        requires state { IsState ((A.seen self.old.core.automaton.now).stands No) self.old.cursor.state }
-        requires small { IfSome self.old.byte (λ b. self.old.cursor.at < usize_max) }
-        ensures grows { Grows looks.old looks.new }
-        ensures same { self.new ≡ record self.old { cursor = self.new.cursor; byte = self.new.byte } }
-        ensures empty { result ≡ true → self.new.byte ≡ None }
-        ensures tries { TriesByte (A.seen self.old.core.automaton.now) self.old.cursor self.old.byte looks.old result
-            self.new.cursor self.new.byte looks.new }
+    fn try_byte(&mut self, end: usize, tape: &Tape<'_>, looks: &mut Looks) -> bool
+        requires may { MayRead (walk_of A.seen self.old) end (point self.old.cursor self.old.byte tape.now looks.old) }
+        ensures same { KeepsOnward self.old self.new }
+        ensures empty { result ≡ is_none self.new.byte }
+        ensures reads { ReadsOn (walk_of A.seen self.old) end (point self.old.cursor self.old.byte tape.now looks.old)
+            (point self.new.cursor self.new.byte tape.now looks.new) }
     {
         let Some(byte) = self.byte else {
             return true;
@@ -259,122 +244,28 @@ impl<'a, A: Automaton> Onward<'a, A> {
         true
     }
 
-    /// Reads on as `read_past` does. It skips ahead to the first bytes where some are given and that pays.
+    /// Reads on as far as it reads, with nothing in hand at first. It skips ahead to the first bytes where some are given and
+    /// that pays.
     #[inline]
-    fn read_or_skip(&mut self, end: usize, tape: &mut Tape<'_>, looks: &mut Looks) -> Option<u8>
+    fn read_on(&mut self, end: usize, tape: &mut Tape<'_>, looks: &mut Looks)
         requires skips { IfSome self.old.first (λ f. SkipsToFirst (A.seen self.old.core.automaton.now) (first_bytes_of f)) }
-        requires may { MayReadUpTo (A.seen self.old.core.automaton.now) tape.old end self.old.cursor looks.old }
-        ensures grows { Grows looks.old looks.new }
-        ensures same { self.new ≡ record self.old { cursor = self.new.cursor; budget = self.new.budget } }
-        ensures reads { ReadsUpTo (A.seen self.old.core.automaton.now) tape.old end self.old.cursor looks.old
-            self.new.cursor result tape.new looks.new }
+        requires empty { self.old.byte ≡ None }
+        requires may { MayRead (walk_of A.seen self.old) end (point self.old.cursor self.old.byte tape.old looks.old) }
+        ensures same { KeepsOnward self.old self.new }
+        ensures reads { HasReadOn (walk_of A.seen self.old) end (point self.old.cursor self.old.byte tape.old looks.old)
+            (point self.new.cursor self.new.byte tape.new looks.new) }
     {
-        match self.first {
-            Some(first) => self.skip_alive(first, end, tape, looks),
-            None => self.core.read_past(end, &mut self.cursor, tape, looks),
-        }
-    }
-
-    /// Reads on as `read_past` does, and skips ahead to the first bytes where the automaton is at its start and that pays.
-    #[inline(never)]
-    fn skip_alive(
-        &mut self,
-        first: FirstBytes,
-        end: usize,
-        tape: &mut Tape<'_>,
-        looks: &mut Looks,
-    ) -> Option<u8>
-        requires skips { SkipsToFirst (A.seen self.old.core.automaton.now) (first_bytes_of first) }
-        requires may { MayReadUpTo (A.seen self.old.core.automaton.now) tape.old end self.old.cursor looks.old }
-        ensures grows { Grows looks.old looks.new }
-        ensures same { self.new ≡ record self.old { cursor = self.new.cursor; budget = self.new.budget } }
-        ensures reads { ReadsUpTo (A.seen self.old.core.automaton.now) tape.old end self.old.cursor looks.old
-            self.new.cursor result tape.new looks.new }
-    {
-        while self.cursor.at < end {
-            let byte = if self.is_to_skip() {
-                self.skip(first, end, tape, looks)
-            } else {
-                self.read_rest(end, tape, looks)
-            };
-            if byte.is_some() {
-                return byte;
-            }
-        }
-        None
-    }
-
-    /// Returns whether a call of the prefilter pays and may be made: the automaton is at its start.
-    #[inline]
-    fn is_to_skip(&self) -> bool
-        requires state { IsState ((A.seen self.now.core.automaton.now).stands No) self.now.cursor.state }
-        ensures { result ≡ true → IsAtStart (A.seen self.now.core.automaton.now) self.now.cursor.state }
-    {
-        self.budget.is_left() && self.core.automaton.is_start(self.cursor.state)
-    }
-
-    /// Reads on without the prefilter for a while, by a byte at least, or to one that leads to the dead state.
-    #[inline]
-    fn read_rest(&mut self, end: usize, tape: &mut Tape<'_>, looks: &mut Looks) -> Option<u8>
-        requires may { MayReadUpTo (A.seen self.old.core.automaton.now) tape.old end self.old.cursor looks.old }
-        requires before { self.old.cursor.at < end }
-        ensures grows { Grows looks.old looks.new }
-        ensures same { self.new ≡ record self.old { cursor = self.new.cursor; budget = self.new.budget } }
-        ensures reads { ReadsFurther (A.seen self.old.core.automaton.now) tape.old end self.old.cursor looks.old
-            self.new.cursor result tape.new looks.new }
-    {
-        let from = self.cursor.at;
-        let to = self.budget.rest_end(from, end);
-        let byte = self.core.read_past(to, &mut self.cursor, tape, looks);
-        self.budget.record_rest(self.cursor.at - from);
-        byte
-    }
-
-    /// Skips ahead to the next of the first bytes, and tries it. It reads on by a byte at least, or to one that leads to the dead
-    /// state.
-    #[inline]
-    fn skip(
-        &mut self,
-        first: FirstBytes,
-        end: usize,
-        tape: &mut Tape<'_>,
-        looks: &mut Looks,
-    ) -> Option<u8>
-        requires skips { SkipsToFirst (A.seen self.old.core.automaton.now) (first_bytes_of first) }
-        requires may { MayReadUpTo (A.seen self.old.core.automaton.now) tape.old end self.old.cursor looks.old }
-        requires before { self.old.cursor.at < end }
-        requires at_start { IsAtStart (A.seen self.old.core.automaton.now) self.old.cursor.state }
-        ensures grows { Grows looks.old looks.new }
-        ensures same { self.new ≡ record self.old { cursor = self.new.cursor; budget = self.new.budget } }
-        ensures reads { ReadsFurther (A.seen self.old.core.automaton.now) tape.old end self.old.cursor looks.old
-            self.new.cursor result tape.new looks.new }
-    {
-        let from = self.cursor.at;
-        let Some(next) = tape.skip_to(first, from, end, looks) else {
-            self.cursor.at = end;
-            return None;
-        };
-        self.budget.record_skip(next - from);
-        self.cursor.at = next;
-        let byte = tape.read(next, looks);
-        let state = self.cursor.state;
-        let led = self
-            .core
-            .automaton
-            .next_state(Anchored::No, state, byte, looks);
-        if self.core.automaton.is_dead(led) {
-            return Some(byte);
-        }
-        self.cursor = Cursor {
-            state: led,
-            at: next + 1,
-        };
-        None
+        let scanner = self.core.scanner(false, end);
+        let (cursor, budget) = (&mut self.cursor, &mut self.budget);
+        let dead = scanner.read_past_or_skip(self.first, cursor, budget, tape, looks);
+        self.byte = byte_of(dead);
     }
 
     /// Gives the match that is picked where the walk stands, and goes on from there; or none where nothing is picked.
     fn give(&mut self) -> Option<Match>
         requires may { MayGive A.seen self.old }
+        ensures there { self.new.cursor.at ≡ self.old.cursor.at }
+        ensures hand { self.new.byte ≡ self.old.byte }
         ensures same { KeepsOnward self.old self.new }
         ensures gives { GivesThere A.seen self.old result self.new }
     {
@@ -387,6 +278,15 @@ impl<'a, A: Automaton> Onward<'a, A> {
         self.rest = chain_rest(given.chain, end);
         Some(found)
     }
+}
+
+/// Returns the byte that leads to the dead state, if one was read.
+#[inline]
+pub(super) fn byte_of(dead: Option<Dead>) -> Option<u8>
+    ensures { result ≡ hand_of dead }
+{
+    let dead = dead?;
+    Some(dead.byte)
 }
 
 /// Returns all matches of a chain as still to be given, after a match that ended at an offset.
@@ -422,27 +322,23 @@ pub(super) fn match_ending<A: Automaton>(automaton: &A, pattern: PatternID, end:
 impl<'a, A: Automaton> Core<'a, A> {
     ghost use Rattle.ac_automaton.specs.Onward.{GivesAt, IsCore};
 
-    /// Reads on past matches, up to a byte that leads to the dead state, which it returns, or up to an offset. The cursor stays
-    /// before that byte.
+    /// Returns a scanner that reads up to an end, and stops at a match or not.
+    // A caller says which, so that only one of the loops that read becomes a part of it.
     #[inline]
-    fn read_past(
-        &self,
-        to: usize,
-        cursor: &mut Cursor,
-        tape: &mut Tape<'_>,
-        looks: &mut Looks,
-    ) -> Option<u8>
-        requires may { MayReadAlive (A.seen self.now.automaton.now) tape.old to cursor.old }
-        ensures grows { Grows looks.old looks.new }
-        ensures reads { ReadsUpTo (A.seen self.now.automaton.now) tape.old to cursor.old looks.old cursor.new result tape.new
-            looks.new }
+    pub(super) fn scanner(&self, stops: bool, end: usize) -> Scanner<'a, A>
+        ensures { result ≡ record {
+          automaton = self.now.automaton;
+          anchored = No;
+          stops = stops;
+          span = between 0 end;
+        } }
     {
-        let scanner = Scanner {
+        Scanner {
             automaton: self.automaton,
             anchored: Anchored::No,
-            span: Span { start: 0, end: to },
-        };
-        scanner.read(false, cursor, tape, looks)
+            stops,
+            span: Span { start: 0, end },
+        }
     }
 
     /// Returns what is given that leaves a state, or `None` where nothing is picked in its string, or if the search stops at a

@@ -89,6 +89,7 @@ pub(super) fn try_find_overlapping<A: Automaton>(
     let scanner = Scanner {
         automaton,
         anchored,
+        stops: true,
         span: input.get_span(),
     };
     let mut reached = match state.reached {

@@ -34,20 +34,21 @@ pub struct FindOverlappingIter<'a, 'h, A: Automaton> {
 }
 
 impl<'a, 'h, A: Automaton> Model for FindOverlappingIter<'a, 'h, A> {
-    ghost use Rattle.std.specs.Prelude.{IfSome};
+    ghost use Rattle.std.specs.Prelude.{◌≡◌, true, IfSome};
     ghost use Rattle.ac_util.specs.Prefilters.{first_bytes_of};
     ghost use Rattle.ac_automaton.specs.Overlaps.{IsListing, Overlapping, overlapping_by};
     ghost use Rattle.ac_automaton.specs.Scans.{work_of, in_memory, scan_of, SkipsTo};
 
     ghost Value = { Overlapping };
 
-    ghost view = { λ s. overlapping_by (scan_of (A.seen s.scanner.automaton.now) s.scanner.anchored)
+    ghost view = { λ s. overlapping_by (scan_of (A.seen s.scanner.automaton.now) s.scanner.anchored s.scanner.stops)
         (in_memory s.tape.bytes s.scanner.span) s.reached (work_of s.tape s.looks) };
 
     ghost invariant = { λ s.
-        let scan = scan_of (A.seen s.scanner.automaton.now) s.scanner.anchored in
+        let scan = scan_of (A.seen s.scanner.automaton.now) s.scanner.anchored s.scanner.stops in
         record {
           listing : IsListing scan (in_memory s.tape.bytes s.scanner.span) s.reached (work_of s.tape s.looks);
+          stops : s.scanner.stops ≡ true;
           skips : IfSome s.first (λ first. SkipsTo scan (first_bytes_of first));
         } };
 }
@@ -74,6 +75,7 @@ impl<'a, 'h, A: Automaton> FindOverlappingIter<'a, 'h, A> {
         let scanner = Scanner {
             automaton,
             anchored,
+            stops: true,
             span: input.get_span(),
         };
         let first = scanner.listing_skips_to();

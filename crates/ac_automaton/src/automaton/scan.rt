@@ -2,13 +2,12 @@
 //!
 //! A search adds to it what it answers, and nothing else: where the automaton stands, what was read and what was
 //! counted is kept here.
-ghost use Rattle.std.specs.Prelude.{◌≡◌, false};
-ghost use Rattle.ac_automaton.specs.Util.{No};
+ghost use Rattle.std.specs.Prelude.{◌≡◌, ◌<◌, ◌↔◌, false, true, IsTrue, None};
 ghost use Rattle.ac_automaton.specs.Automata.{IsState};
 ghost use Rattle.ac_automaton.specs.Finds.{FindsAt, StandsIn};
 ghost use Rattle.ac_automaton.specs.Overlaps.{is_due};
-ghost use Rattle.ac_automaton.specs.Onward.{ReadsAlive, ReadsUpTo};
-ghost use Rattle.ac_automaton.specs.Scans.{Advances, Follows, Grows, MayAdvance, MayRead, Stops, TellsOver, TellsStop, scanner};
+ghost use Rattle.ac_automaton.specs.Reads.{MayRead, ReadsToStop, StopsAt, Tries, entered, hand_of, point};
+ghost use Rattle.ac_automaton.specs.Scans.{TellsOver, scanner, work_of};
 
 use super::Automaton;
 use ac_util::looks::{Looks, Tape};
@@ -20,6 +19,25 @@ use ac_util::search::{Anchored, Match, Span};
 pub(super) struct Cursor {
     pub(super) state: StateID,
     pub(super) at: usize,
+}
+
+/// A byte that leads to the dead state, and where the automaton stands once it has followed it.
+#[derive(Clone, Copy)]
+pub(super) struct Dead {
+    pub(super) byte: u8,
+    pub(super) next: Cursor,
+}
+
+impl Cursor {
+    /// Follows the byte that leads to the dead state, if one was read.
+    #[inline]
+    pub(super) fn enter(&mut self, dead: Option<Dead>)
+        ensures { self.new ≡ entered dead self.old }
+    {
+        if let Some(dead) = dead {
+            *self = dead.next;
+        }
+    }
 }
 
 /// Returns whether a match of this length counts after so many bytes of the span were read. In an anchored search it
@@ -39,95 +57,126 @@ pub fn is_due(anchored: Anchored, len: usize, read: usize) -> bool
 pub(super) struct Scanner<'a, A: Automaton> {
     pub(super) automaton: &'a A,
     pub(super) anchored: Anchored,
+    /// Whether it reads no further than to a match.
+    pub(super) stops: bool,
     pub(super) span: Span,
 }
 
 impl<'a, A: Automaton> Scanner<'a, A> {
-    /// Reads the byte at the cursor's place, and returns the state to which it leads.
-    #[inline]
+    /// Reads the byte at the cursor's place, and returns it with the state to which it leads.
+    // A loop that calls it for each byte takes longer.
+    #[inline(always)]
     pub(super) fn read_byte(
         &self,
         cursor: Cursor,
         tape: &mut Tape<'_>,
         looks: &mut Looks,
-    ) -> StateID
-        requires { MayAdvance (scanner A.seen self.now) tape.old cursor }
-        ensures follows { Follows (scanner A.seen self.now) cursor tape.old looks.old result tape.new looks.new }
-        ensures calls { looks.new.calls ≡ looks.old.calls }
+    ) -> (u8, StateID)
+        requires before { cursor.at < self.now.span.end }
+        requires may { MayRead (scanner A.seen self.now).scan self.now.span.end (point cursor None tape.old looks.old) }
+        ensures bytes { tape.new.bytes ≡ tape.old.bytes }
+        ensures tries { Tries (scanner A.seen self.now).scan (point cursor None tape.old looks.old) result.0 result.1
+            (work_of tape.new looks.new) }
     {
         let byte = tape.read(cursor.at, looks);
-        self.automaton
-            .next_state(self.anchored, cursor.state, byte, looks)
+        let next = self
+            .automaton
+            .next_state(self.anchored, cursor.state, byte, looks);
+        (byte, next)
     }
 
     /// Reads on up to a byte that leads to the dead state, which it returns, or up to the end of the span, or if it stops at a
-    /// match to a state that has some. The cursor stays before that byte.
-    #[inline]
+    /// match up to a state that has some. The cursor stays before that byte.
+    // Where it isn't a part of its caller, the engine's step isn't one of it.
+    #[inline(always)]
     pub(super) fn read(
         &self,
-        stops: bool,
         cursor: &mut Cursor,
         tape: &mut Tape<'_>,
         looks: &mut Looks,
-    ) -> Option<u8>
-        requires may { MayRead (scanner A.seen self.now) tape.old cursor.old }
-        ensures grows { Grows looks.old looks.new }
-        ensures reads { self.now.anchored ≡ No → stops ≡ false → ReadsUpTo (A.seen self.now.automaton.now) tape.old
-            self.now.span.end cursor.old looks.old cursor.new result tape.new looks.new }
-        ensures comes { self.now.anchored ≡ No → ReadsAlive (A.seen self.now.automaton.now) stops tape.old.bytes
-            self.now.span.end cursor.old cursor.new result }
+    ) -> Option<Dead>
+        requires may { MayRead (scanner A.seen self.now).scan self.now.span.end (point cursor.old None tape.old looks.old) }
+        ensures { ReadsToStop (scanner A.seen self.now).scan self.now.span.end (point cursor.old None tape.old looks.old)
+            result (point cursor.new (hand_of result) tape.new looks.new) }
+    {
+        if self.stops {
+            self.read_to_match(cursor, tape, looks)
+        } else {
+            self.read_past(cursor, tape, looks)
+        }
+    }
+
+    /// Reads on as `read` does that stops at a match. It tests the end last, which is faster where most bytes lead on.
+    #[inline]
+    pub(super) fn read_to_match(
+        &self,
+        cursor: &mut Cursor,
+        tape: &mut Tape<'_>,
+        looks: &mut Looks,
+    ) -> Option<Dead>
+        requires stops { self.now.stops ≡ true }
+        requires may { MayRead (scanner A.seen self.now).scan self.now.span.end (point cursor.old None tape.old looks.old) }
+        ensures { ReadsToStop (scanner A.seen self.now).scan self.now.span.end (point cursor.old None tape.old looks.old)
+            result (point cursor.new (hand_of result) tape.new looks.new) }
+    {
+        let (mut state, mut at) = (cursor.state, cursor.at);
+        let end = self.span.end;
+        if at >= end {
+            return None;
+        }
+        loop {
+            let (byte, next) = self.read_byte(Cursor { state, at }, tape, looks);
+            let there = Cursor {
+                state: next,
+                at: at + 1,
+            };
+            if there.at >= end || self.automaton.is_match_or_dead(next) {
+                if self.automaton.is_dead(next) {
+                    *cursor = Cursor { state, at };
+                    return Some(Dead { byte, next: there });
+                }
+                *cursor = there;
+                return None;
+            }
+            state = next;
+            at += 1;
+        }
+    }
+
+    /// Reads on as `read` does that stops at no match.
+    #[inline]
+    pub(super) fn read_past(&self, cursor: &mut Cursor, tape: &mut Tape<'_>, looks: &mut Looks) -> Option<Dead>
+        requires past { self.now.stops ≡ false }
+        requires may { MayRead (scanner A.seen self.now).scan self.now.span.end (point cursor.old None tape.old looks.old) }
+        ensures { ReadsToStop (scanner A.seen self.now).scan self.now.span.end (point cursor.old None tape.old looks.old)
+            result (point cursor.new (hand_of result) tape.new looks.new) }
     {
         let (mut state, mut at) = (cursor.state, cursor.at);
         let end = self.span.end;
         while at < end {
-            let here = Cursor { state, at };
-            let byte = tape.read(at, looks);
-            let next = self.automaton.next_state(self.anchored, state, byte, looks);
+            let (byte, next) = self.read_byte(Cursor { state, at }, tape, looks);
+            if self.automaton.is_dead(next) {
+                *cursor = Cursor { state, at };
+                let next = Cursor {
+                    state: next,
+                    at: at + 1,
+                };
+                return Some(Dead { byte, next });
+            }
             state = next;
             at += 1;
-            if self.is_to_stop(stops, next) {
-                if self.automaton.is_dead(next) {
-                    *cursor = here;
-                    return Some(byte);
-                }
-                *cursor = Cursor { state, at };
-                return None;
-            }
         }
         *cursor = Cursor { state, at };
         None
     }
 
-    /// Returns whether nothing is to be read on from a state: it is dead, or has matches where the search stops at one.
+    /// Returns whether the scan is to stop at a state: it stops at a match, and the state has some.
     #[inline]
-    fn is_to_stop(&self, stops: bool, state: StateID) -> bool
-        requires state { IsState (scanner A.seen self.now).scan.stands state }
-        ensures { TellsStop (scanner A.seen self.now).scan stops state result }
+    pub(super) fn is_to_stop(&self, state: StateID) -> bool
+        requires { IsState (scanner A.seen self.now).scan.stands state }
+        ensures { IsTrue result ↔ StopsAt (scanner A.seen self.now).scan state }
     {
-        if stops {
-            self.automaton.is_match_or_dead(state)
-        } else {
-            self.automaton.is_dead(state)
-        }
-    }
-
-    /// Reads on up to a state that has matches or is dead, or up to the end of the span: by a byte at least.
-    #[inline]
-    pub(super) fn read_ahead(&self, cursor: &mut Cursor, tape: &mut Tape<'_>, looks: &mut Looks)
-        requires { MayAdvance (scanner A.seen self.now) tape.old cursor.old }
-        ensures advances { Advances (scanner A.seen self.now) cursor.old tape.old looks.old cursor.new tape.new looks.new }
-        ensures stops { Stops (scanner A.seen self.now) cursor.new }
-    {
-        let (mut state, mut at) = (cursor.state, cursor.at);
-        let end = self.span.end;
-        loop {
-            state = self.read_byte(Cursor { state, at }, tape, looks);
-            at += 1;
-            if at >= end || self.automaton.is_match_or_dead(state) {
-                *cursor = Cursor { state, at };
-                return;
-            }
-        }
+        self.stops && self.automaton.is_match(state)
     }
 
     /// Returns whether nothing is left to read, or nothing more is found.

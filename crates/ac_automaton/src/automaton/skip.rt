@@ -2,14 +2,17 @@
 //!
 //! It calls a prefilter where the automaton is at its start: the bytes that are skipped would lead from there to the start
 //! again.
-ghost use Rattle.std.specs.Prelude.{◌≤◌, ◌<◌, IfSome};
+ghost use Rattle.std.specs.Prelude.{◌≤◌, ◌<◌, ◌≡◌, false, true, IfSome, None};
 ghost use Rattle.ac_util.specs.Prefilters.{first_bytes_of};
+ghost use Rattle.ac_automaton.specs.Automata.{IsState};
+ghost use Rattle.ac_automaton.specs.Reads.{IsAtStart, MayRead, ReadsFurther, ReadsToStart, ReadsToStop, hand_at, hand_of, point};
 ghost use Rattle.ac_automaton.specs.Scans.{Advances, MayAdvance, scanner, SkipsTo};
 
 use super::Automaton;
-use super::scan::{Cursor, Scanner};
+use super::scan::{Cursor, Dead, Scanner};
 use ac_util::looks::{Looks, Tape};
 use ac_util::prefilter::FirstBytes;
+use ac_util::primitives::StateID;
 use ac_util::search::{Match, Span};
 
 /// How many bytes a call of a prefilter has to skip to be worth its time.
@@ -81,13 +84,6 @@ impl SkipBudget {
         }
     }
 
-    /// Charges a byte that is read where no call can be made, since reading it here takes longer than in
-    /// `read_ahead`.
-    #[inline]
-    fn record_byte(&mut self) {
-        self.bytes = self.bytes.saturating_sub(1);
-    }
-
     /// Returns the offset up to which a search reads without the prefilter: one byte on where there is budget, else
     /// as far as it rests, and no further than the end.
     #[inline]
@@ -116,11 +112,20 @@ impl SkipBudget {
     }
 }
 
+/// Where a search has come to that reads on to its start.
+#[derive(Clone, Copy)]
+pub(super) enum ToStart {
+    /// There, and a call of the prefilter pays.
+    There,
+    /// As far as it reads, and to this byte.
+    Stopped(Option<Dead>),
+}
+
 impl<'a, A: Automaton> Scanner<'a, A> {
     /// Reads on by a byte at least, up to a state that has matches or is dead, or up to the end of the span. It skips ahead
     /// to the first bytes where some are given and that pays.
     #[inline]
-    pub(super) fn read_or_skip(
+    pub(super) fn read_ahead(
         &self,
         first: Option<FirstBytes>,
         cursor: &mut Cursor,
@@ -128,81 +133,159 @@ impl<'a, A: Automaton> Scanner<'a, A> {
         tape: &mut Tape<'_>,
         looks: &mut Looks,
     )
+        requires stops { self.now.stops ≡ true }
         requires skips { IfSome first (λ f. SkipsTo (scanner A.seen self.now).scan (first_bytes_of f)) }
         requires may { MayAdvance (scanner A.seen self.now) tape.old cursor.old }
         ensures { Advances (scanner A.seen self.now) cursor.old tape.old looks.old cursor.new tape.new looks.new }
     {
+        let dead = self.read_to_match_or_skip(first, cursor, budget, tape, looks);
+        cursor.enter(dead);
+    }
+
+    /// Reads on as `read` does that stops at a match. It skips ahead to the first bytes where some are given and that pays.
+    #[inline]
+    fn read_to_match_or_skip(
+        &self,
+        first: Option<FirstBytes>,
+        cursor: &mut Cursor,
+        budget: &mut SkipBudget,
+        tape: &mut Tape<'_>,
+        looks: &mut Looks,
+    ) -> Option<Dead>
+        requires stops { self.now.stops ≡ true }
+        requires skips { IfSome first (λ f. SkipsTo (scanner A.seen self.now).scan (first_bytes_of f)) }
+        requires may { MayRead (scanner A.seen self.now).scan self.now.span.end (point cursor.old None tape.old looks.old) }
+        ensures { ReadsToStop (scanner A.seen self.now).scan self.now.span.end (point cursor.old None tape.old looks.old)
+            result (point cursor.new (hand_of result) tape.new looks.new) }
+    {
         match first {
-            Some(first) => self.skip_ahead(first, cursor, budget, tape, looks),
-            None => self.read_ahead(cursor, tape, looks),
+            Some(first) => self.read_skipping(first, cursor, budget, tape, looks),
+            None => self.read_to_match(cursor, tape, looks),
         }
     }
 
-    /// Reads on by a byte at least, up to a state that has matches or is dead, or up to the end of the span. It skips ahead
-    /// to the first bytes where the automaton is at its start and that pays.
+    /// Reads on as `read` does that stops at no match. It skips ahead to the first bytes where some are given and that pays.
+    #[inline(always)]
+    pub(super) fn read_past_or_skip(
+        &self,
+        first: Option<FirstBytes>,
+        cursor: &mut Cursor,
+        budget: &mut SkipBudget,
+        tape: &mut Tape<'_>,
+        looks: &mut Looks,
+    ) -> Option<Dead>
+        requires past { self.now.stops ≡ false }
+        requires skips { IfSome first (λ f. SkipsTo (scanner A.seen self.now).scan (first_bytes_of f)) }
+        requires may { MayRead (scanner A.seen self.now).scan self.now.span.end (point cursor.old None tape.old looks.old) }
+        ensures { ReadsToStop (scanner A.seen self.now).scan self.now.span.end (point cursor.old None tape.old looks.old)
+            result (point cursor.new (hand_of result) tape.new looks.new) }
+    {
+        match first {
+            Some(first) => self.read_skipping(first, cursor, budget, tape, looks),
+            None => self.read_past(cursor, tape, looks),
+        }
+    }
+
+    /// Reads on as `read` does, and skips ahead to the first bytes where the automaton is at its start and that pays.
     #[inline(never)]
-    pub(super) fn skip_ahead(
+    fn read_skipping(
         &self,
         first: FirstBytes,
         cursor: &mut Cursor,
         budget: &mut SkipBudget,
         tape: &mut Tape<'_>,
         looks: &mut Looks,
-    )
+    ) -> Option<Dead>
         requires skips { SkipsTo (scanner A.seen self.now).scan (first_bytes_of first) }
-        requires may { MayAdvance (scanner A.seen self.now) tape.old cursor.old }
-        ensures { Advances (scanner A.seen self.now) cursor.old tape.old looks.old cursor.new tape.new looks.new }
+        requires may { MayRead (scanner A.seen self.now).scan self.now.span.end (point cursor.old None tape.old looks.old) }
+        ensures { ReadsToStop (scanner A.seen self.now).scan self.now.span.end (point cursor.old None tape.old looks.old)
+            result (point cursor.new (hand_of result) tape.new looks.new) }
     {
         // A copy, which stays in registers.
         let mut copied = *cursor;
         let here = &mut copied;
-        loop {
-            self.read_next(first, here, budget, tape, looks);
-            if here.at >= self.span.end || self.automaton.is_match_or_dead(here.state) {
+        while here.at < self.span.end {
+            let dead = self.read_piece(first, here, budget, tape, looks);
+            if dead.is_some() || self.is_to_stop(here.state) {
                 *cursor = *here;
-                return;
+                return dead;
             }
         }
+        *cursor = *here;
+        None
     }
 
-    /// Reads on by a byte at least: without the prefilter where no budget is left; else a byte, the next that may begin a
-    /// match where the automaton is at its start.
+    /// Reads on by a piece: it skips ahead to the first bytes where the automaton is at its start and that pays, or reads on
+    /// without the prefilter for a while.
     #[inline]
-    fn read_next(
+    fn read_piece(
         &self,
         first: FirstBytes,
         cursor: &mut Cursor,
         budget: &mut SkipBudget,
         tape: &mut Tape<'_>,
         looks: &mut Looks,
-    )
+    ) -> Option<Dead>
         requires skips { SkipsTo (scanner A.seen self.now).scan (first_bytes_of first) }
-        requires may { MayAdvance (scanner A.seen self.now) tape.old cursor.old }
-        ensures { Advances (scanner A.seen self.now) cursor.old tape.old looks.old cursor.new tape.new looks.new }
+        requires may { MayRead (scanner A.seen self.now).scan self.now.span.end (point cursor.old None tape.old looks.old) }
+        requires before { cursor.old.at < self.now.span.end }
+        ensures { ReadsFurther (scanner A.seen self.now).scan self.now.span.end (point cursor.old None tape.old looks.old)
+            result (point cursor.new (hand_of result) tape.new looks.new) }
     {
-        if !budget.is_left() {
-            return self.read_rest(cursor, budget, tape, looks);
+        if self.is_to_skip(cursor.state, budget) {
+            self.skip(first, cursor, budget, tape, looks)
+        } else {
+            self.read_rest(cursor, budget, tape, looks)
         }
-        let end = self.span.end;
-        if !self.automaton.is_start(cursor.state) {
-            budget.record_byte();
-            cursor.state = self.read_byte(*cursor, tape, looks);
-            cursor.at += 1;
-            return;
-        }
+    }
+
+    /// Returns whether a call of the prefilter pays and may be made: the automaton is at its start.
+    #[inline]
+    pub(super) fn is_to_skip(&self, state: StateID, budget: &SkipBudget) -> bool
+        requires state { IsState (scanner A.seen self.now).scan.stands state }
+        ensures { result ≡ true → IsAtStart (scanner A.seen self.now).scan state }
+    {
+        budget.is_left() && self.automaton.is_start(state)
+    }
+
+    /// Skips ahead to the next of the first bytes, and tries it.
+    #[inline]
+    fn skip(
+        &self,
+        first: FirstBytes,
+        cursor: &mut Cursor,
+        budget: &mut SkipBudget,
+        tape: &mut Tape<'_>,
+        looks: &mut Looks,
+    ) -> Option<Dead>
+        requires skips { SkipsTo (scanner A.seen self.now).scan (first_bytes_of first) }
+        requires may { MayRead (scanner A.seen self.now).scan self.now.span.end (point cursor.old None tape.old looks.old) }
+        requires before { cursor.old.at < self.now.span.end }
+        requires at_start { IsAtStart (scanner A.seen self.now).scan cursor.old.state }
+        ensures { ReadsFurther (scanner A.seen self.now).scan self.now.span.end (point cursor.old None tape.old looks.old)
+            result (point cursor.new (hand_of result) tape.new looks.new) }
+    {
         let from = cursor.at;
-        let Some(next) = tape.skip_to(first, from, end, looks) else {
-            cursor.at = end;
-            return;
+        let Some(next) = tape.skip_to(first, from, self.span.end, looks) else {
+            cursor.at = self.span.end;
+            return None;
         };
         budget.record_skip(next - from);
         cursor.at = next;
-        cursor.state = self.read_byte(*cursor, tape, looks);
-        cursor.at += 1;
+        let (byte, state) = self.read_byte(*cursor, tape, looks);
+        let there = Cursor {
+            state,
+            at: next + 1,
+        };
+        if self.automaton.is_dead(state) {
+            return Some(Dead { byte, next: there });
+        }
+        *cursor = there;
+        None
     }
 
-    /// Reads on without the prefilter: as far as the budget has it rest, or by a byte where there is budget, or up to a state
-    /// that has matches or is dead, or up to the end of the span.
+    /// Reads on without the prefilter: as far as the budget has it rest, or by a byte where there is budget, and no further than
+    /// `read` does.
     #[inline]
     pub(super) fn read_rest(
         &self,
@@ -210,20 +293,48 @@ impl<'a, A: Automaton> Scanner<'a, A> {
         budget: &mut SkipBudget,
         tape: &mut Tape<'_>,
         looks: &mut Looks,
-    )
-        requires { MayAdvance (scanner A.seen self.now) tape.old cursor.old }
-        ensures { Advances (scanner A.seen self.now) cursor.old tape.old looks.old cursor.new tape.new looks.new }
+    ) -> Option<Dead>
+        requires may { MayRead (scanner A.seen self.now).scan self.now.span.end (point cursor.old None tape.old looks.old) }
+        requires before { cursor.old.at < self.now.span.end }
+        ensures { ReadsFurther (scanner A.seen self.now).scan self.now.span.end (point cursor.old None tape.old looks.old)
+            result (point cursor.new (hand_of result) tape.new looks.new) }
     {
         let from = cursor.at;
         let scanner = Scanner {
             automaton: self.automaton,
             anchored: self.anchored,
+            stops: self.stops,
             span: Span {
                 start: self.span.start,
                 end: budget.rest_end(from, self.span.end),
             },
         };
-        scanner.read_ahead(cursor, tape, looks);
+        let dead = scanner.read(cursor, tape, looks);
         budget.record_rest(cursor.at - from);
+        dead
+    }
+
+    /// Reads on to where a call of the prefilter pays and may be made, or else as far as `read` does.
+    pub(super) fn read_to_start(
+        &self,
+        cursor: &mut Cursor,
+        budget: &mut SkipBudget,
+        tape: &mut Tape<'_>,
+        looks: &mut Looks,
+    ) -> ToStart
+        requires may { MayRead (scanner A.seen self.now).scan self.now.span.end (point cursor.old None tape.old looks.old) }
+        ensures { ReadsToStart (scanner A.seen self.now).scan self.now.span.end (point cursor.old None tape.old looks.old)
+            result (point cursor.new (hand_at result) tape.new looks.new) }
+    {
+        while cursor.at < self.span.end {
+            if self.is_to_skip(cursor.state, budget) {
+                return ToStart::There;
+            }
+            let dead = self.read_rest(cursor, budget, tape, looks);
+            if dead.is_some() || self.is_to_stop(cursor.state) {
+                return ToStart::Stopped(dead);
+            }
+        }
+        ToStart::Stopped(None)
     }
 }

@@ -2,22 +2,22 @@
 ghost use Rattle.std.specs.Prelude.{◌≡◌, ◌≢◌, ◌≤◌, ◌<◌, ◌+◌, ◌-◌, [], None, Some, drop, false, true, length, slice_range, take};
 ghost use Rattle.ac_automaton.specs.Util.{is_leftmost, IsNear, No, Reads, Standard};
 ghost use Rattle.ac_automaton.specs.Answers.{BeginsStream};
-ghost use Rattle.ac_automaton.specs.Automata.{IsState};
+ghost use Rattle.ac_automaton.specs.Automata.{IsLiveState, IsState};
 ghost use Rattle.ac_automaton.specs.Commits.{AreCommits, reads_on};
-ghost use Rattle.ac_automaton.specs.Onward.{ReadsAlive};
+ghost use Rattle.ac_automaton.specs.Scans.{scan_of};
 ghost use Rattle.ac_automaton.specs.declared.automaton.stream_settled.Phase.TheVariants.{Ended, Failed, Open};
-ghost use Rattle.ac_automaton.specs.Streams.{Fills, HasGivenSettled, GivesLast, GivesRead, GivesSettled, StreamsOn, kept_len, initial_stream};
+ghost use Rattle.ac_automaton.specs.Streams.{Fills, HasGivenSettled, GivesLast, GivesRead, GivesSettled, ReadsThrough, StreamsOn, kept_len, initial_stream};
 
 use super::Automaton;
-use super::onward::{ChainRest, Core, Given, chain_rest, match_ending, take_next};
-use super::scan::{Cursor, Scanner};
+use super::onward::{ChainRest, Core, Given, byte_of, chain_rest, match_ending, take_next};
+use super::scan::Cursor;
 use super::stream_settled::{Phase, buffer_len, most_kept, settled_from};
 use ac_util::device::Source;
 use ac_util::error::{MatchError, StreamError};
 use ac_util::history::History;
 use ac_util::looks::open;
 use ac_util::primitives::StateID;
-use ac_util::search::{Anchored, Input, Match, MatchKind, Span};
+use ac_util::search::{Anchored, Input, Match, MatchKind};
 use ac_util::tally::Tally;
 use std::alloc::Allocator;
 use std::io;
@@ -346,22 +346,16 @@ impl<'a, A: Automaton> Core<'a, A> {
 
     /// Reads on in some bytes up to their end, or as far as `Scanner::read` does.
     fn read_through(&self, bytes: &[u8], cursor: &mut Cursor) -> Option<u8>
-        requires state { IsState ((A.seen self.now.automaton.now).stands No) cursor.old.state }
-        ensures { ReadsAlive (A.seen self.now.automaton.now) self.now.stops bytes.now (length bytes.now) cursor.old cursor.new result }
+        requires alive { IsLiveState ((A.seen self.now.automaton.now).stands No) cursor.old.state }
+        ensures { ReadsThrough (scan_of (A.seen self.now.automaton.now) No self.now.stops) bytes.now cursor.old cursor.new result }
     {
         let (mut tape, mut looks) = open(&Input::new(bytes));
-        let scanner = Scanner {
-            automaton: self.automaton,
-            anchored: Anchored::No,
-            span: Span {
-                start: 0,
-                end: bytes.len(),
-            },
-        };
         if self.stops {
-            return scanner.read(true, cursor, &mut tape, &mut looks);
+            let scanner = self.scanner(true, bytes.len());
+            return byte_of(scanner.read(cursor, &mut tape, &mut looks));
         }
-        scanner.read(false, cursor, &mut tape, &mut looks)
+        let scanner = self.scanner(false, bytes.len());
+        byte_of(scanner.read(cursor, &mut tape, &mut looks))
     }
 
     /// Returns what is given that leaves a state, if that is settled: where the search stops at a match, a byte was read that

@@ -44,13 +44,12 @@ impl<'a, 'h, A: Automaton> Model for FindIter<'a, 'h, A> {
     ghost use Rattle.std.specs.Prelude.{◌≡◌, ◌<◌, ◌≤◌, length};
     ghost use Rattle.ac_automaton.specs.Util.{input_of, usize_max};
     ghost use Rattle.ac_automaton.specs.Iterators.{Walking, walking_of};
-    ghost use Rattle.ac_automaton.specs.Onward.{IsKept};
-    ghost use Rattle.ac_automaton.specs.Scans.{work_of};
+    ghost use Rattle.ac_automaton.specs.Onward.{IsKept, kept_work};
 
     ghost Value = { Walking };
 
     ghost view = { λ s. walking_of s.search.finder s.search.tape.bytes s.span s.last s.from.value
-        (work_of s.search.tape s.search.looks) };
+        (kept_work s.onward s.search.tape s.search.looks) };
 
     ghost invariant = { λ s. record {
       whole : s.search.tape.bytes ≡ (input_of s.search.input).haystack;

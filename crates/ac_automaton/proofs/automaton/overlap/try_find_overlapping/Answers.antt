@@ -1,4 +1,4 @@
-use Rattle.std.proofs.Common.{◌≡◌, [], ap, sym, subst, ◌∙◌, inl, inr, Option, Some, MatchOption, rules}
+use Rattle.std.proofs.Common.{true, ◌≡◌, [], ap, sym, subst, ◌∙◌, inl, inr, Option, Some, MatchOption, rules}
 use Rattle.std.proofs.lemmas.Bool.{cases_lt, false≢true}
 use Rattle.ac_automaton.specs.Util.{input_of, search_in, Span}
 use Rattle.ac_util.specs.declared.search.Anchored.{Anchored}
@@ -15,7 +15,7 @@ returns-then-is_done g c = search (rules, by_state-served, past_end-gives)
 module _ (g : Over) (c : After-open-tape g) where
   abbrev s : Scan
   s =
-      scan_of (g.A.Automaton.seen c.args.automaton.now) (input_of c.args.input).anchored
+      scan_of (g.A.Automaton.seen c.args.automaton.now) (input_of c.args.input).anchored true
 
   abbrev span : Span
   span = record { start = (input_of c.args.input).start; end = (input_of c.args.input).end }

@@ -8,8 +8,8 @@ pub returns-then-span-clause-finds : goal.returns-then-span-clause-finds
 returns-then-span-clause-finds g c =
     record { searched = searched-nothing _ _ _ c.if-span.true c.requires.unread; bytes = refl }
 
-pub find_on-requires : goal.find_on-requires
-find_on-requires g c = may-find-first c.requires (omega arith) (omega (arith, c.if-span.false)) c.self.invariant.starts c.self.invariant.leftmost
+pub find_on-requires-clause-may : goal.find_on-requires-clause-may
+find_on-requires-clause-may g c = may-find-first c.requires (omega arith) (omega (arith, c.if-span.false)) c.self.invariant.starts c.self.invariant.leftmost
 
 -- what the find has done, said of the finder as it is seen
 pub returns-clause-finds : goal.returns-clause-finds

@@ -1,25 +1,40 @@
-use Rattle.std.proofs.Common.{◌≡◌, ◌⊎◌, ◌<◌, ℕ, IfSome, Option, arith, sym, subst}
-use Rattle.ac_automaton.specs.Util.{usize_max}
-use Rattle.ac_automaton.proofs.OnwardReads.{tries-dead, tries-on}
+use Rattle.std.proofs.Common.{◌≡◌, ◌⊎◌, ℕ, Option, refl, sym, subst, ◌∙◌}
+use Rattle.std.proofs.lemmas.Bool.{false≢true}
+use Rattle.ac_automaton.specs.Util.{No}
+use Rattle.ac_automaton.specs.Reads.{point, ReadsOn, Tries}
+use Rattle.ac_automaton.specs.Scans.{work_of}
+use Rattle.ac_automaton.specs.Onward.{walk_of}
+use Rattle.ac_automaton.proofs.ReadingOn.{hand-before, reads-byte, reads-nothing, stops-byte, tries-hand}
 use Rattle.ac_automaton.proofs.automaton.onward.Onward.try_byte.Given.{Over}
-use Rattle.ac_automaton.proofs.automaton.onward.Onward.try_byte.Goals.{Start}
+use Rattle.ac_automaton.proofs.automaton.onward.Onward.try_byte.Goals.{After-is_dead}
 use Rattle.ac_automaton.proofs.automaton.onward.Onward.try_byte.Goals as goal
 
-looks : (g : Over) (c : Start g) → ((g.A.Automaton.seen c.args.self.now.core.automaton.now).most ≡ 1) ⊎ ((g.A.Automaton.seen c.args.self.now.core.automaton.now).most ≡ 2)
-looks g c =
-    subst (λ (n : ℕ). (n ≡ 1) ⊎ (n ≡ 2)) (sym (g.met.A.Automaton.allows c.args.self.now.core.automaton.now)) g.met.A.Automaton.one_or_two
+pub returns-in_default-clause-reads : goal.returns-in_default-clause-reads
+returns-in_default-clause-reads g c = reads-nothing c.requires.may c.in_default.is
 
-pub overflow_add-self : goal.overflow_add-self
-overflow_add-self g c =
-    let small = subst (λ (b : Option ℕ). IfSome b (λ (x : ℕ). c.args.self.now.cursor.at < usize_max)) c.in-Some.is c.requires.small in
-    omega arith
+module _ (g : Over) (c : After-is_dead g) where
+  looks : ((g.A.Automaton.seen c.args.self.now.core.automaton.now).most ≡ 1) ⊎ ((g.A.Automaton.seen c.args.self.now.core.automaton.now).most ≡ 2)
+  looks =
+      subst (λ (n : ℕ). (n ≡ 1) ⊎ (n ≡ 2)) (sym (g.met.A.Automaton.allows c.args.self.now.core.automaton.now)) g.met.A.Automaton.one_or_two
 
-pub returns-then-is_dead-clause-tries : goal.returns-then-is_dead-clause-tries
-returns-then-is_dead-clause-tries g c =
-    tries-dead (looks g (goal.at.returns-then-is_dead-clause-tries g c).Start) c.next_state-next.result c.in-Some.is
-    c.next_state-next.ensures.looks c.next_state-next.ensures.steps c.is_dead.result c.is_dead.ensures c.if-is_dead.true
+  tries : Tries (walk_of g.A.Automaton.seen c.args.self.now)
+      (point c.args.self.now.cursor c.args.self.now.byte c.args.tape.now c.args.looks.now) c.in-Some.byte c.next_state-next.result
+      (work_of c.args.tape.now c.next_state-next.new.looks)
+  tries = tries-hand c.requires.may c.in-Some.is c.next_state-next.ensures.steps c.next_state-next.ensures.looks
 
-pub returns-clause-tries : goal.returns-clause-tries
-returns-clause-tries g c =
-    tries-on (looks g (goal.at.returns-clause-tries g c).Start) c.next_state-next.result c.in-Some.is
-    c.next_state-next.ensures.looks c.next_state-next.ensures.steps c.is_dead.result c.is_dead.ensures c.if-is_dead.false
+-- the byte in hand leads to the dead state, and stays
+pub returns-then-is_dead-clause-reads : goal.returns-then-is_dead-clause-reads
+returns-then-is_dead-clause-reads g c =
+    let d = (goal.at.returns-then-is_dead-clause-reads g c).After-is_dead in
+    subst (λ (h : Option ℕ). ReadsOn (walk_of g.A.Automaton.seen c.args.self.now) c.args.end
+    (point c.args.self.now.cursor c.args.self.now.byte c.args.tape.now c.args.looks.now)
+    (point c.args.self.now.cursor h c.args.tape.now c.next_state-next.new.looks)) (sym c.in-Some.is)
+    (stops-byte (looks g d) c.requires.may (hand-before c.requires.may c.in-Some.is) (tries g d) refl
+    (λ u there. (c.is_dead.ensures No u there).0 c.if-is_dead.true))
+
+-- or it leads on
+pub returns-clause-reads : goal.returns-clause-reads
+returns-clause-reads g c =
+    let d = (goal.at.returns-clause-reads g c).After-is_dead in
+    reads-byte (looks g d) c.requires.may (hand-before c.requires.may c.in-Some.is) (tries g d) refl
+    (λ u there gone. false≢true (sym c.if-is_dead.false ∙ (c.is_dead.ensures No u there).1 gone))

@@ -10,7 +10,7 @@ use Rattle.ac_automaton.proofs.automaton.overlap_iter.FindOverlappingIter.advanc
 module _ (g : Over) (c : After-self g) where
   abbrev s : Scan
   s =
-      scan_of (g.A.Automaton.seen c.self.inside.scanner.automaton.now) c.self.inside.scanner.anchored
+      scan_of (g.A.Automaton.seen c.self.inside.scanner.automaton.now) c.self.inside.scanner.anchored c.self.inside.scanner.stops
 
   abbrev seen : Option Reached → Overlapping
   seen reached = overlapping_by s (in_memory c.self.inside.tape.bytes c.self.inside.scanner.span) reached (work_of c.self.inside.tape c.self.inside.looks)
@@ -34,6 +34,7 @@ invariant_of-self g c =
           (listing-goes_on (s g d) inside.tape.bytes inside.scanner.span c.in_ok-reached.reached next.new.reached
           (work_of inside.tape inside.looks) (work_of next.new.tape next.new.looks) next.result
           (way g d c.in_ok-reached.was) next.ensures.moved next.ensures.scans);
+      stops = c.self.invariant.stops;
       skips = c.self.invariant.skips;
     }
 

@@ -1,4 +1,4 @@
-use Rattle.std.proofs.Common.{◌≡◌, ℕ, ◌≤◌, List, false, ap, refl, sym, subst, ◌∙◌, Option, Some, rules, arith}
+use Rattle.std.proofs.Common.{true, ◌≡◌, ℕ, ◌≤◌, List, false, ap, refl, sym, subst, ◌∙◌, Option, Some, rules, arith}
 use Rattle.std.proofs.lemmas.Grind.{common_steps}
 use Rattle.ac_automaton.specs.Util.{input_of, No, Node, Span}
 use Rattle.ac_automaton.specs.Prelude.{given_by, in_memory, IsListing, Lists, nothing_done, Reached, Scan, scan_of, search_through}
@@ -11,7 +11,7 @@ use Rattle.ac_automaton.proofs.automaton.overlap_iter.FindOverlappingIter.new.Go
 module _ (g : Over) (c : After-open-tape g) where
   abbrev s : Scan
   s =
-      scan_of (g.A.Automaton.seen c.args.automaton.now) c.get_anchored-anchored.result
+      scan_of (g.A.Automaton.seen c.args.automaton.now) c.get_anchored-anchored.result true
 
   abbrev span : Span
   span = record { start = (input_of c.args.input).start; end = (input_of c.args.input).end }

@@ -1,57 +1,39 @@
-use Rattle.std.proofs.lemmas.Grind.{common_steps}
-use Rattle.std.proofs.Common.{arith}
+use Rattle.std.proofs.Common.{◌≡◌, ◌⊎◌, ℕ, subst, sym, arith}
+use Rattle.ac_automaton.specs.Prelude.{Advances, scanner}
 use Rattle.ac_automaton.proofs.FindSkipping.{finds-needle, finds-passed, may-advance, may-find-passed, skip-some}
-use Rattle.ac_automaton.proofs.ReadAhead.{along-passed, comes-advances, comes-on, comes-start, may-go-on}
+use Rattle.ac_automaton.proofs.ReadAhead.{advances, may-read, passes-read}
+use Rattle.ac_automaton.proofs.automaton.scan.Scanner.find_needle.Given.{Over}
+use Rattle.ac_automaton.proofs.automaton.scan.Scanner.find_needle.Goals.{After-enter}
 use Rattle.ac_automaton.proofs.automaton.scan.Scanner.find_needle.Goals as goal
 
-pub loop-cursor-init : goal.loop-cursor-init
-loop-cursor-init g c = comes-start (may-advance c.requires.begins)
-
--- where it stands it has reached some node
-pub is_start-requires : goal.is_start-requires
-is_start-requires g c =
-    let may = may-go-on (may-advance c.requires.begins) c.loop-cursor.invariant in
-    record { state = (c.args.self.now.anchored, (_, may.alive.2.is_at.there)) }
-
-pub read_rest-requires : goal.read_rest-requires
-read_rest-requires g c = may-go-on (may-advance c.requires.begins) c.loop-cursor.invariant
-
-pub is_match_or_dead-requires : goal.is_match_or_dead-requires
-is_match_or_dead-requires g c =
-    grind (
-      arith,
-      common_steps,
-      may-go-on (may-advance c.requires.begins) c.loop-cursor.invariant,
-      may-advance c.requires.begins,
-    )
-
-pub loop-cursor-preserved : goal.loop-cursor-preserved
-loop-cursor-preserved g c =
-    comes-on c.loop-cursor.invariant c.read_rest.ensures c.if-cursor-self.false
-    (g.met.A.Automaton.lists c.args.self.now.automaton.now c.args.self.now.anchored c.read_rest.new.cursor.state)
-    c.is_match_or_dead.result (c.is_match_or_dead.ensures c.args.self.now.anchored) c.if-is_match_or_dead.false
+pub read_to_start-requires : goal.read_to_start-requires
+read_to_start-requires g c = record { may = may-read (may-advance c.requires.begins) }
 
 -- what it finds where it has read on it finds from where it began
-pub find_on-requires : goal.find_on-requires
-find_on-requires g c =
-    let advances = comes-advances c.loop-cursor.invariant c.read_rest.ensures in
-    may-find-passed c.requires.begins c.requires.needle.unanchored (skip-some c.requires.needle.skips) advances.bytes
-    advances.within advances.passes
+module _ (g : Over) (c : After-enter g) where
+  read-on : Advances (scanner g.A.Automaton.seen c.args.self.now) c.args.cursor.now c.args.tape.now c.args.looks.now c.enter.new.self
+      c.read_to_start.new.tape c.read_to_start.new.looks
+  read-on =
+      advances
+      (subst (λ (n : ℕ). (n ≡ 1) ⊎ (n ≡ 2)) (sym (g.met.A.Automaton.allows c.args.self.now.automaton.now)) g.met.A.Automaton.one_or_two)
+      c.requires.reads (may-advance c.requires.begins) c.in-Stopped.ensures.further c.enter.ensures
 
-pub returns-then-cursor-self : goal.returns-then-cursor-self
-returns-then-cursor-self g c =
-    let advances = comes-advances c.loop-cursor.invariant c.read_rest.ensures in
-    finds-passed c.requires.begins c.requires.needle.unanchored (skip-some c.requires.needle.skips) advances.bytes
-    advances.within advances.passes c.find_on.ensures
+pub find_on-requires-clause-may : goal.find_on-requires-clause-may
+find_on-requires-clause-may g c =
+    let a = read-on g (goal.at.find_on-requires-clause-may g c).After-enter in
+    may-find-passed c.requires.begins c.requires.needle.unanchored (skip-some c.requires.needle.skips) a.bytes a.within a.passes
 
-pub find_needle-found-requires-clause-onward : goal.find_needle-found-requires-clause-onward
-find_needle-found-requires-clause-onward g c =
-    (may-go-on (may-advance c.requires.begins) c.loop-cursor.invariant).unread
+pub returns-in-Stopped : goal.returns-in-Stopped
+returns-in-Stopped g c =
+    let a = read-on g (goal.at.returns-in-Stopped g c).After-enter in
+    finds-passed c.requires.begins c.requires.needle.unanchored (skip-some c.requires.needle.skips) a.bytes a.within a.passes c.find_on.ensures
 
 pub returns : goal.returns
 returns g c =
-    let on = c.loop-cursor.invariant in
-    finds-needle c.requires.begins c.requires.needle.unanchored (skip-some c.requires.needle.skips) on.bytes (omega (arith, on.before_end))
-    (λ u same alive. along-passed (on.along u same alive)) c.requires.needle
-    (λ u there. (c.is_start.ensures c.args.self.now.anchored u there).0 c.if-not-is_start.false)
-    on.before_end c.find_needle-found.ensures.found c.find_needle-found.ensures.counted
+    let d = c.in_default.ensures in let before = d.1 in
+    let start = may-advance c.requires.begins in let here = start.before_end in
+    finds-needle c.requires.begins c.requires.needle.unanchored (skip-some c.requires.needle.skips) d.0.bytes (omega arith)
+    (λ t same alive. passes-read
+    (subst (λ (n : ℕ). (n ≡ 1) ⊎ (n ≡ 2)) (sym (g.met.A.Automaton.allows c.args.self.now.automaton.now)) g.met.A.Automaton.one_or_two)
+    c.requires.reads start.inside (omega arith) t same alive d.0) c.requires.needle d.2 before
+    c.find_needle-found.ensures.found c.find_needle-found.ensures.counted

@@ -13,8 +13,8 @@ returns-then-is_over g c =
     (c.is_over.ensures _ (stands-still c.requires.may c.loop-found.invariant c.take_due.ensures c.in_default.is))
     c.if-is_over.true
 
-pub read_or_skip-requires-clause-may : goal.read_or_skip-requires-clause-may
-read_or_skip-requires-clause-may g c =
+pub read_ahead-requires-clause-may : goal.read_ahead-requires-clause-may
+read_ahead-requires-clause-may g c =
     may-list-on c.requires.may c.loop-found.invariant c.take_due.ensures c.in_default.is
     (c.is_over.ensures _ (stands-still c.requires.may c.loop-found.invariant c.take_due.ensures c.in_default.is))
     c.if-is_over.false
@@ -23,6 +23,6 @@ pub loop-found-preserved : goal.loop-found-preserved
 loop-found-preserved g c =
     lists-next c.requires.may c.loop-found.invariant c.take_due.ensures c.in_default.is
     (c.is_over.ensures _ (stands-still c.requires.may c.loop-found.invariant c.take_due.ensures c.in_default.is))
-    c.if-is_over.false c.read_or_skip.ensures
-    (g.met.A.Automaton.lists c.args.self.now.automaton.now c.args.self.now.anchored c.read_or_skip.new.cursor.state)
+    c.if-is_over.false c.read_ahead.ensures
+    (g.met.A.Automaton.lists c.args.self.now.automaton.now c.args.self.now.anchored c.read_ahead.new.cursor.state)
     c.new.ensures

@@ -12,7 +12,7 @@ use Rattle.ac_automaton.proofs.automaton.scan.Scanner.take_due.Goals as goal
 module _ (g : Over) (c : Else-not-is_due g) where
   abbrev s : Scan
   s =
-      scan_of (g.A.Automaton.seen c.args.self.now.automaton.now) c.args.self.now.anchored
+      scan_of (g.A.Automaton.seen c.args.self.now.automaton.now) c.args.self.now.anchored c.args.self.now.stops
 
   counted : counts s.built s.anchored (c.args.reached.now.at - c.args.self.now.span.start) c.in_ok-pattern.pattern ≡ true
   counted = search rules

@@ -1,10 +1,10 @@
-use Rattle.std.proofs.Common.{◌≡◌, ◌≢◌, ◌∙◌, List, [], length, Some, refl, take, ap, sym, subst, ℕ}
+use Rattle.std.proofs.Common.{◌≡◌, ◌≢◌, ◌∙◌, List, [], length, Some, refl, take, ap, sym, subst}
 use Rattle.std.proofs.lemmas.Bool.{false≢true}
 use Rattle.std.proofs.lemmas.List.{length-take-le}
 use Rattle.ac_automaton.specs.Util.{No, Node}
 use Rattle.ac_automaton.specs.Prelude.{AutomatonView, Failed, Inside, IsStreaming, matches_of, Streaming}
 use Rattle.ac_automaton.specs.Streams.{streaming_by}
-use Rattle.ac_automaton.specs.Onward.{pending, ReadsAlive, TakesFrom}
+use Rattle.ac_automaton.specs.Onward.{pending, TakesFrom}
 use Rattle.ac_automaton.specs.declared.automaton.commits.ChainMatch.{ChainMatch}
 use Rattle.ac_automaton.specs.declared.automaton.onward.ChainRest.{ChainRest}
 use Rattle.ac_automaton.proofs.StreamKnown.{gives-known, may-take-known, streams-known}
@@ -92,12 +92,8 @@ module _ (g : Over) (c : After-read_through-byte g) where
             c.chains-chains.ensures c.in_default-take_next.ensures.1;
         shown = take c.self.inside.filled c.deref.result.now;
         shows = shows;
-        reads =
-            subst (λ (n : ℕ). ReadsAlive (g.A.Automaton.seen c.self.inside.core.automaton.now) c.self.inside.core.stops
-            (take c.self.inside.filled c.deref.result.now) n (record { state = c.self.inside.state; at = c.self.inside.at })
-            c.read_through-byte.new.cursor c.read_through-byte.result)
-            (ap length shows ∙ length-take-le c.self.inside.filled c.self.inside.buffer.items c.self.invariant.streams.filled)
-            c.read_through-byte.ensures;
+        reads = c.read_through-byte.ensures;
+        long = ap length shows ∙ length-take-le c.self.inside.filled c.self.inside.buffer.items c.self.invariant.streams.filled;
       }
 
   lists-there : (u : Node) → (g.A.Automaton.seen c.self.inside.core.automaton.now).stands No c.read_through-byte.new.cursor.state u

@@ -1,6 +1,8 @@
-use Rattle.std.proofs.Common.{◌≡◌, ℕ, refl, ◌≤◌, length, Option, Some, None, sym, ◌∙◌, rules, arith}
+use Rattle.std.proofs.Common.{◌≡◌, ℕ, refl, ◌≤◌, length, Option, Some, None, subst, sym, ◌∙◌, rules, arith}
 use Rattle.std.proofs.lemmas.Grind.{common_steps}
-use Rattle.ac_automaton.specs.Prelude.{IsByFinds, last_after, walking_of, work_of}
+use Rattle.ac_automaton.specs.Onward.{kept_work}
+use Rattle.ac_automaton.specs.declared.automaton.onward.Onward.{Onward}
+use Rattle.ac_automaton.specs.Prelude.{GoesOn, IsByFinds, last_after, walking_of, work_of}
 use Rattle.ac_automaton.proofs.WalkLoop.{HasGone, has-gone}
 use Rattle.ac_automaton.proofs.WalkOnce.{keeps-finds, kept-finds, kept-reads, none-from}
 use Rattle.ac_automaton.proofs.automaton.walk.FindIter.advance.Given.{Over}
@@ -20,6 +22,14 @@ by-finds : (g : Over) (c : After-after-self-inside g)
     c.self.inside.from.value (work_of c.self.inside.search.tape c.self.inside.search.looks))
 by-finds g c = kept-finds c.self.invariant.kept (none g c)
 
+seen-so : (g : Over) (c : After-after-self-inside g)
+    → walking_of c.self.inside.search.finder c.self.inside.search.tape.bytes c.self.inside.span c.self.inside.last
+    c.self.inside.from.value (work_of c.self.inside.search.tape c.self.inside.search.looks) ≡ c.args.self.now
+seen-so g c =
+    subst (λ (o : Option (Onward g.row.A.Denot g.row.A-Memory.Denot)). walking_of c.self.inside.search.finder c.self.inside.search.tape.bytes
+    c.self.inside.span c.self.inside.last c.self.inside.from.value (kept_work o c.self.inside.search.tape c.self.inside.search.looks)
+    ≡ c.args.self.now) (none g c) c.self.view_is
+
 -- the walk has gone on, whatever was found: it is where the last match was noted
 moved : (g : Over) (c : After-after-self-inside g) (last : Option ℕ)
     → last ≡ last_after c.self.inside.last c.next_left-found.result
@@ -31,8 +41,25 @@ moved g c last ends =
     grind (
       arith,
       common_steps,
+      seen-so g c,
       has-gone (by-finds g c).under_way refl (c.next_left-found.ensures).next ((c.next_left-found.ensures).finds (c.self).inside.from.value) (by-finds g c).by_finds,
     )
+
+-- and so its iterator is seen
+as-kept : (g : Over) (c : After-after-self-inside g) (last : Option ℕ)
+    → GoesOn c.args.self.now c.next_left-found.result
+    (walking_of c.next_left-found.new.self.finder c.next_left-found.new.self.tape.bytes
+    (record { start = c.after-self-inside.result; end = c.self.inside.span.end }) last c.self.inside.from.value
+    (work_of c.next_left-found.new.self.tape c.next_left-found.new.self.looks))
+    → GoesOn c.args.self.now c.next_left-found.result
+    (walking_of c.next_left-found.new.self.finder c.next_left-found.new.self.tape.bytes
+    (record { start = c.after-self-inside.result; end = c.self.inside.span.end }) last c.self.inside.from.value
+    (kept_work c.self.inside.onward c.next_left-found.new.self.tape c.next_left-found.new.self.looks))
+as-kept g c last goes =
+    subst (λ (o : Option (Onward g.row.A.Denot g.row.A-Memory.Denot)). GoesOn c.args.self.now c.next_left-found.result
+    (walking_of c.next_left-found.new.self.finder c.next_left-found.new.self.tape.bytes
+    (record { start = c.after-self-inside.result; end = c.self.inside.span.end }) last c.self.inside.from.value
+    (kept_work o c.next_left-found.new.self.tape c.next_left-found.new.self.looks))) (sym (none g c)) goes
 
 -- it is over the same bytes
 inside : (g : Over) (c : After-after-self-inside g) → c.self.inside.span.end ≤ length c.next_left-found.new.self.tape.bytes
@@ -55,8 +82,8 @@ invariant_of-self g c =
 
 pub returns-in-Some : goal.returns-in-Some
 returns-in-Some g c =
-    (moved g (goal.at.returns-in-Some g c).After-after-self-inside (Some c.end.result)
-    (simp (c.end.ensures, c.in-Some.is))).goes_on
+    let d = (goal.at.returns-in-Some g c).After-after-self-inside in
+    as-kept g d (Some c.end.result) (moved g d (Some c.end.result) (simp (c.end.ensures, c.in-Some.is))).goes_on
 
 -- and where there was none
 pub invariant_of-self-in_default : goal.invariant_of-self-in_default
@@ -71,4 +98,5 @@ invariant_of-self-in_default g c =
 
 pub returns-in_default : goal.returns-in_default
 returns-in_default g c =
-    (moved g (goal.at.returns-in_default g c).After-after-self-inside c.self.inside.last (simp c.in_default.is)).goes_on
+    let d = (goal.at.returns-in_default g c).After-after-self-inside in
+    as-kept g d c.self.inside.last (moved g d c.self.inside.last (simp c.in_default.is)).goes_on

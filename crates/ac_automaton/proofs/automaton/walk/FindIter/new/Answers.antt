@@ -1,6 +1,6 @@
 use Rattle.std.proofs.Common.{length, ap, rules, arith}
 use Rattle.ac_automaton.specs.Util.{Span, Taped}
-use Rattle.ac_automaton.proofs.WalkOnce.{kept-first}
+use Rattle.ac_automaton.proofs.WalkOnce.{kept-first, work-first}
 use Rattle.ac_automaton.proofs.automaton.walk.FindIter.new.Goals as goal
 
 -- the walk begins where its span does
@@ -17,3 +17,9 @@ invariant_of-result g c =
       small = search rules;
       kept = kept-first c.open-tape.ensures.tape c.of.ensures c.open-tape.ensures.looks (omega arith) (omega arith) c.onward-onward.ensures;
     }
+
+-- so all its matches are still to come
+pub returns : goal.returns
+returns g c =
+    let starts = ap (λ (s : Span). s.start) c.get_span-span.ensures in
+    search (rules, work-first g.A.Automaton.seen c.in_ok-finder.finder c.get_span-span.result.start c.onward-onward.result c.open-tape.ensures.tape c.open-tape.ensures.looks c.onward-onward.ensures)
