@@ -145,7 +145,12 @@ impl<'a, A: Automaton> Scanner<'a, A> {
 
     /// Reads on as `read` does that stops at no match.
     #[inline]
-    pub(super) fn read_past(&self, cursor: &mut Cursor, tape: &mut Tape<'_>, looks: &mut Looks) -> Option<Dead>
+    pub(super) fn read_past(
+        &self,
+        cursor: &mut Cursor,
+        tape: &mut Tape<'_>,
+        looks: &mut Looks,
+    ) -> Option<Dead>
         requires past { self.now.stops ≡ false }
         requires may { MayRead (scanner A.seen self.now).scan self.now.span.end (point cursor.old None tape.old looks.old) }
         ensures { ReadsToStop (scanner A.seen self.now).scan self.now.span.end (point cursor.old None tape.old looks.old)
