@@ -64,7 +64,7 @@ pub(super) struct Scanner<'a, A: Automaton> {
 
 impl<'a, A: Automaton> Scanner<'a, A> {
     /// Reads the byte at the cursor's place, and returns it with the state to which it leads.
-    // A loop that calls it for each byte takes longer.
+    // Always inlined: a call for each byte takes longer.
     #[inline(always)]
     pub(super) fn read_byte(
         &self,
@@ -87,7 +87,7 @@ impl<'a, A: Automaton> Scanner<'a, A> {
 
     /// Reads on up to a byte that leads to the dead state, which it returns, or up to the end of the span, or if it stops at a
     /// match up to a state that has some. The cursor stays before that byte.
-    // Where it isn't a part of its caller, the engine's step isn't one of it.
+    // Always inlined: the anchoring is known in its caller, and so the engine's step is inlined too.
     #[inline(always)]
     pub(super) fn read(
         &self,
