@@ -7,7 +7,8 @@ use Rattle.ac_util.proofs.Beginning.{pick-within}
 use Rattle.ac_util.proofs.Walks.{pick-in_span}
 use Rattle.ac_util.proofs.OneLonger.{pick-empty_none, pick-empty_some, none-past_end}
 use Rattle.ac_util.proofs.SearchLoop.{SearchGoesOn, pick-goes_on, pick-found, pick-stays_dead}
-use Rattle.ac_automaton.specs.Prelude.{found_at, HasSearched, in_memory, IsAt, IsDecided, matches_of, node, Picking, picking_by, place_of, ReadsTo, Scan, ScansTo, search_through, HasReadMatch, Work}
+use Rattle.ac_automaton.specs.Prelude.{found_at, HasSearched, in_memory, IsDecided, matches_of, node, Picking, picking_by, place_of, ReadsTo, Scan, ScansTo, search_through, HasReadMatch, Work}
+use Rattle.ac_automaton.specs.Scans.{StopsAtDead}
 use Rattle.ac_automaton.proofs.ReadOn.{read-nothing, read-scanned}
 
 -- what is found ends where the text read ends
@@ -74,7 +75,7 @@ module _ (s : Scan) (stops : Bool) (bytes : List ℕ) (span : Span) where
   picked-final at m up standard e = grind (arith, common_steps, pick-within q at up)
 
   -- what a find has done that answers r once it has come to a place, where it has read enough
-  module _ {state at : ℕ} {work new_work : Work} (is_at : IsAt s (in_memory bytes span) state at)
+  module _ {at : ℕ} {work new_work : Work} (inside : at ≤ length bytes) (alive : StopsAtDead s.built.kind q at)
       (scans : ScansTo s (in_memory bytes span) span.start work at new_work) where
     -- each byte of what was picked was read
     picked-read : (r : Option Occurrence) → r ≡ pick order (up_to at) → IfSome r (HasReadMatch span.start work new_work)

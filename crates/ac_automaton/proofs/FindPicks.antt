@@ -1,13 +1,15 @@
 -- A find on its way: where its scanner has come to, and what it picks so far.
-use Rattle.std.proofs.Common.{◌≡◌, ◌≤◌, ℕ, Bool, true, false, IsTrue, ◌↔◌, List, refl, subst, sym, ◌∙◌, arith, Option, IfSome, rules}
+use Rattle.std.proofs.Common.{◌≡◌, ◌≤◌, ℕ, Bool, true, false, IsTrue, ◌↔◌, List, [], length, Some, refl, subst, sym, ◌∙◌, arith, Option, IfSome, rules}
 use Rattle.std.specs.Option.{option_or}
+use Rattle.std.proofs.lemmas.Grind.{common_steps}
 use Rattle.ac_util.proofs.SearchLoop.{SearchGoesOn}
-use Rattle.ac_automaton.specs.Util.{Counts, Node, Occurrence, order_of, pick, Standard, Taped, usize_max}
-use Rattle.ac_automaton.specs.Prelude.{Advances, Cursor, FindsOn, FitsIn, found_at, in_memory, IsAlive, IsAnswered, IsAt, MayAdvance, MayFind, node, PassesNoMatch, ScannerView, ScansTo, ScanText, search_through, work_of}
-use Rattle.ac_automaton.specs.Finds.{FindsAt, StandsIn}
+use Rattle.ac_util.specs.declared.search.Anchored.{Anchored}
+use Rattle.ac_automaton.specs.Util.{Counts, is_leftmost, Node, Occurrence, order_of, pick, Span, Standard, Taped, usize_max}
+use Rattle.ac_automaton.specs.Prelude.{Advances, AutomatonView, Cursor, finding_of, FindsIn, FindsOn, FitsIn, found_at, in_memory, IsAlive, IsAnswered, IsAt, MayAdvance, MayFind, MaySearch, node, PassesNoMatch, Scan, scan_of, ScannerView, ScansTo, ScanText, search_through, work_of}
+use Rattle.ac_automaton.specs.Finds.{FindsAt, IsReady, StandsIn}
 use Rattle.ac_automaton.proofs.FindAhead.{IsUnanswered, answer-there, decided-there, ends-or, ends-there, picked-or, unanswered-by}
-use Rattle.ac_automaton.proofs.FindLoop.{goes_on-by, searched}
-use Rattle.ac_automaton.proofs.ReadOn.{node-fits, scans-nothing, scans-on}
+use Rattle.ac_automaton.proofs.FindLoop.{goes_on-by, picked-start, searched}
+use Rattle.ac_automaton.proofs.ReadOn.{at-start, node-fits, scans-nothing, scans-on}
 
 module _ (v : ScannerView) (bytes : List ℕ) (here : Cursor) (is_at : IsAt v.scan (in_memory bytes v.span) here.state here.at) where
   -- the node where it stands fits into what was read
@@ -109,10 +111,39 @@ module _ {v : ScannerView} {stops : Bool} {start : Cursor} {tape : Taped} (may :
               bytes = on.bytes;
               searched = λ begun before.
                   let done = scans-on before on.scans in
-                  searched v.scan stops tape.bytes v.span on.is_at done last
+                  searched v.scan stops tape.bytes v.span on.is_at.inside on.is_at.alive done last
                   (answer-there v.scan stops tape.bytes v.span here.at on.is_at.onward on.within may.inside last on.picks may.leftmost
                   answered)
                   on.within on.picks on.ends
                   (λ same. decided-there v.scan stops tape.bytes v.span here.at on.is_at.onward on.within may.inside last on.picks
                   may.leftmost answered (done.whole same) on.scans.unread);
             }
+
+-- at the start of the span a find may read on: what the start state finds is picked
+ready-start : (s : Scan) (stops : Bool) (bytes : List ℕ) (span : Span) {state : ℕ} → s.stands state (Some [])
+    → span.start ≤ length bytes → IsReady s (in_memory bytes span) stops (record { state = state; at = span.start })
+ready-start s stops bytes span there inside = search (rules, at-start, picked-start)
+
+pub may-find-first : {v : ScannerView} {stops : Bool} {tape : Taped} {state : ℕ} → MaySearch v.span tape
+    → v.span.end ≤ usize_max → v.span.start ≤ v.span.end → v.scan.stands state (Some []) → (stops ≡ false → is_leftmost v.scan.built.kind ≡ true)
+    → MayFind v stops tape (record { state = state; at = v.span.start })
+may-find-first {v} {stops} {tape} may small ordered starts leftmost =
+    grind (
+      arith,
+      common_steps,
+      ready-start v.scan stops tape.bytes v.span starts (omega (arith, ordered, may.end_within)),
+    )
+
+-- what a find answers that begins there is said of its finder
+pub finds-in : (a : AutomatonView) {anchored : Anchored} {span : Span} {stops : Bool} {tape new_tape : Taped}
+    {counts new_counts : Counts} {found : Option Occurrence} {start : Cursor} → start.at ≡ span.start → tape.place ≤ span.start
+    → FindsOn (record { scan = scan_of a anchored true; span = span }) stops start tape counts found new_tape new_counts
+    → FindsIn (finding_of a anchored stops) span tape counts found new_tape new_counts
+finds-in a {anchored} {span} {stops} {tape} {new_tape} {counts} {new_counts} {found} {start} there unread finds =
+    let s = scan_of a anchored true in
+    record {
+      searched = finds.searched (work_of tape counts)
+          (subst (λ (k : ℕ). ScansTo s (in_memory tape.bytes span) span.start (work_of tape counts) k (work_of tape counts))
+          (sym there) (scans-nothing s (in_memory tape.bytes span) unread));
+      bytes = finds.bytes;
+    }

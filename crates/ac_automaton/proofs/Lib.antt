@@ -14,7 +14,7 @@ pub mod Exchanging
 pub mod FindAhead
 pub mod FindLoop
 mod FindPicks
-pub mod FindSkipping
+pub mod FindGives
 pub mod Follows
 pub mod Gathering
 pub mod Grown

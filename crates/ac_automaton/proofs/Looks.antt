@@ -4,6 +4,7 @@ use Rattle.std.proofs.lemmas.Grind.{common_steps}
 use Rattle.ac_util.specs.Prelude.{depth, failure, is_node, looks_within}
 use Rattle.ac_util.specs.declared.search.Anchored.{Anchored}
 use Rattle.ac_automaton.specs.Util.{Built, credit, looks, MatchKind, No, Node, plain_byte, Yes}
+use Rattle.ac_util.proofs.Failures.{looks-paid}
 use Rattle.ac_util.proofs.SearchLoop.{step-paid}
 use Rattle.ac_automaton.specs.Prelude.{looks_of, most_looks, plain_of, step_of}
 
@@ -49,3 +50,10 @@ credit-dead most = by (most == 1)
     by : (t : Bool) → ◌≡◌ {A = ℕ} (if t then 0 else 0) 0
     by true = refl
     by false = refl
+
+-- a step leads to a node that is longer by no more than a byte
+pub step-short : (built : Built) (a : Anchored) (u : Node) (byte : ℕ) → depth (step_of built a u byte) ≤ depth u + 1
+step-short built No u byte =
+    let l = looks-paid built.kind (plain_of built) No u (plain_byte built.ignores_case byte) in
+    let o = within-one built.kind (plain_of built) (depth u) u (plain_byte built.ignores_case byte) in omega arith
+step-short built Yes u byte = let l = looks-paid built.kind (plain_of built) Yes u (plain_byte built.ignores_case byte) in omega arith

@@ -13,7 +13,8 @@ use Rattle.ac_util.proofs.Onward.{byte_at}
 use Rattle.ac_util.proofs.SearchLoop.{step-paid}
 use Rattle.ac_automaton.specs.Prelude.{AutomatonView, Cursor, matches_of, place_of, plain_of, search_of, step_of, Work}
 use Rattle.ac_automaton.specs.Commits.{chain_at, ending_in, IsCommit, reads_on}
-use Rattle.ac_automaton.specs.Onward.{chain_of, first_given, GivesAt, GivesOf, HasCounted, HasGiven, HasStopped, IsCounted, IsGiven, IsOnward, IsRestBefore, MayTakeFrom, pending, TakesKnown}
+use Rattle.ac_automaton.specs.Cores.{chain_of, first_given, GivesAt, GivesOf, IsGiven, MayTakeFrom, pending, TakesKnown}
+use Rattle.ac_automaton.specs.Onward.{HasCounted, HasGiven, HasStopped, IsCounted, IsOnward, IsRestBefore}
 use Rattle.ac_automaton.specs.Reads.{in_hand, tried}
 use Rattle.ac_automaton.specs.Scans.{scan_of}
 use Rattle.ac_automaton.specs.declared.automaton.commits.ChainMatch.{ChainMatch}
@@ -21,7 +22,7 @@ use Rattle.ac_automaton.specs.declared.automaton.commits.Commit.{Commit}
 use Rattle.ac_automaton.specs.declared.automaton.onward.ChainRest.{ChainRest}
 use Rattle.ac_automaton.specs.declared.automaton.onward.Given.{Given}
 use Rattle.ac_automaton.proofs.OnwardLists.{on-leftmost, on-some}
-use Rattle.ac_automaton.proofs.PastGives.{ends-there, goes-known, goes-on, has-bytes, known-high, known-numbered, known-onward, known-within, never-dead, next, numbered, onward, pattern-within, picks-first, picks-known, rest-within}
+use Rattle.ac_automaton.proofs.PastGives.{ends-there, goes-known, goes-on, has-bytes, known-high, known-numbered, known-onward, known-within, never-dead, next, onward, picks-first, picks-known, rest-within}
 
 -- of a state with matches the first one is given, and of one without none
 pub first-of : (start : ℕ) (listed : List ℕ) {p : ℕ} → slice_get listed 0 ≡ Some p
@@ -160,14 +161,8 @@ module _ (a : AutomatonView) (on : reads_on a.built ≡ true) (chains : List (Li
     abbrev base : ℕ
     base = cursor.at - given.rest
 
-    pub given-numbered : given.pattern < length a.built.patterns
-    given-numbered = numbered a on chains q is refl v cursor.at here given gives
-
-    pub given-rest : given.rest ≤ cursor.at
+    given-rest : given.rest ≤ cursor.at
     given-rest = rest-within a on chains q is refl v cursor.at here given gives
-
-    pub given-within : length (pattern_of a.built.patterns given.pattern) ≤ base
-    given-within = pattern-within a on chains q is refl v cursor.at here given gives
 
     -- each look is paid
     paid : tried (scan_of a No false) v byte + credit a.most (Some gives.node) ≤ credit a.most (Some v) + 1

@@ -1,13 +1,14 @@
 -- A walk that reads each byte once by a single pattern, and is at its start: its prefilter answers the next match.
-use Rattle.std.proofs.Common.{◌≡◌, ℕ, ◌+◌, ◌-◌, ◌*◌, ◌<◌, ◌≤◌, Bool, true, false, List, [], ◌∷◌, length, refl, ap, sym, ◌∙◌, subst, arith, Option, None, Some, rules}
+use Rattle.std.proofs.Common.{◌≡◌, ℕ, zero, suc, ◌+◌, ◌-◌, ◌*◌, ◌<◌, ◌≤◌, Bool, true, false, List, [], ◌∷◌, length, refl, ap, sym, ◌∙◌, subst, arith, Option, None, Some, rules}
 use Rattle.std.specs.Option.{is_some}
 use Rattle.std.proofs.lemmas.Bool.{false≢true}
-use Rattle.ac_automaton.specs.Util.{Counts, credit, from, IsNeedleMatch, may_skip, No, Node, Occurrence, Occurs, one_more_call, participates, pick, reached, Search, search_over, Standard, text}
+use Rattle.ac_automaton.specs.Util.{Built, Counts, credit, from, IsNeedleMatch, MatchKind, may_skip, No, Node, Occurrence, Occurs, one_more_call, participates, pick, reached, Search, search_over, Standard, text}
 use Rattle.ac_util.specs.Prefilters.Skip.{Needle}
 use Rattle.ac_util.specs.Commits.{IsPickIn}
 use Rattle.ac_util.proofs.AtStart.{pick-rest}
 use Rattle.ac_util.proofs.NodeRests.{pick-in_node, reached-rest}
 use Rattle.ac_util.proofs.Onward.{after-start}
+use Rattle.ac_util.proofs.Participants.{takes_part}
 use Rattle.ac_util.proofs.PickedWalks.{pick-some}
 use Rattle.ac_util.proofs.Spans.{Stands-from_Occurs}
 use Rattle.ac_util.proofs.Standing.{Stands-end}
@@ -17,8 +18,18 @@ use Rattle.ac_automaton.specs.Commits.{reads_on}
 use Rattle.ac_automaton.specs.Onward.{HasGiven, IsCounted, IsOnward}
 use Rattle.ac_automaton.specs.declared.automaton.commits.ChainMatch.{ChainMatch}
 use Rattle.ac_automaton.specs.declared.automaton.onward.ChainRest.{ChainRest}
-use Rattle.ac_automaton.proofs.FindSkipping.{one-takes_part}
 use Rattle.ac_automaton.proofs.OnwardLists.{on-leftmost, on-some}
+
+-- each pattern of a list of one takes part
+pub one-takes_part : (kind : MatchKind) (p : List ℕ) (n : ℕ) → n < 1 → participates kind (p ∷ []) n ≡ true
+one-takes_part kind p zero within = takes_part (p ∷ []) kind zero refl
+one-takes_part kind p (suc n) within = absurd (omega arith)
+
+-- in the empty string nothing is picked
+pub none-in : (built : Built) → reads_on built ≡ true → IsPickIn built.kind (plain_of built) No [] None
+none-in built on n s stands =
+    let some = on-some built on n stands.prefixes.numbered in
+    let ends = Stands-end (plain_of built) No [] n s stands in omega arith
 
 module _ (a : AutomatonView) (on : reads_on a.built ≡ true) {needle : List ℕ} (skips : Skips a.wants_prefilter a.built (Needle needle))
     (chains : List (List ChainMatch)) (bytes : List ℕ) (low end start : ℕ) (inside : end ≤ length bytes) where
@@ -34,12 +45,6 @@ module _ (a : AutomatonView) (on : reads_on a.built ≡ true) {needle : List ℕ
   -- it is the only pattern, so it takes part
   all : (n : ℕ) → n < length a.built.patterns → participates a.built.kind patterns n ≡ true
   all n within = search (rules, one-takes_part)
-
-  -- in the empty string nothing is picked
-  none-in : IsPickIn a.built.kind patterns No [] None
-  none-in n s stands =
-      let some = on-some a.built on n stands.prefixes.numbered in
-      let ends = Stands-end patterns No [] n s stands in omega arith
 
   module _ {state at : ℕ} {work : Work} (onward : IsOnward a q start [] (record { state = state; at = at }) None work)
       (at-start : (u : Node) → a.stands No state u → u ≡ Some []) (before : at < end) where
@@ -59,7 +64,7 @@ module _ (a : AutomatonView) (on : reads_on a.built ≡ true) {needle : List ℕ
     nothing : (m : Occurrence) → ¬ Occurs read m
     nothing m occurs =
         let rest = reached-rest a.built.kind patterns (text read) [] at-node in
-        pick-in_node a.built.kind patterns (on-leftmost a.built on) (text read) [] rest.0 rest.1 at-node None none-in m.pattern
+        pick-in_node a.built.kind patterns (on-leftmost a.built on) (text read) [] rest.0 rest.1 at-node None (none-in a.built on) m.pattern
         (m.start - low) (Stands-from_Occurs read low-at (omega arith) m occurs)
 
     -- so the pick is that of the rest, which the prefilter answers

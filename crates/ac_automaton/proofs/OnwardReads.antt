@@ -2,7 +2,7 @@
 use Rattle.std.proofs.Common.{◌≡◌, ◌⊎◌, ℕ, ◌+◌, ◌-◌, ◌*◌, ◌<◌, ◌≤◌, false, List, [], length, slice_index, refl, ap, sym, ◌∙◌, subst, inl, inr, arith, IfSome, Option, None, Some, MatchOption}
 use Rattle.std.proofs.lemmas.Bool.{false≢true}
 use Rattle.ac_util.specs.Commits.{StandsAfter}
-use Rattle.ac_automaton.specs.Util.{No, Search}
+use Rattle.ac_automaton.specs.Util.{No, Occurrence, Search}
 use Rattle.ac_automaton.specs.Prelude.{AutomatonView, plain_of, Scan, scan_of, search_of, step_of}
 use Rattle.ac_automaton.specs.Onward.{HasCounted, HasStopped, IsOnward, StandsBy}
 use Rattle.ac_automaton.specs.Reads.{Comes, MayRead, Point, ReadsEnough, ReadsOn, StopsAt, tried}
@@ -20,7 +20,7 @@ module _ (a : AutomatonView) (bytes : List ℕ) (low end start : ℕ) (inside : 
   s = scan_of a No false
 
   -- a walk that has come to a point may read on there
-  pub may-onward : {p : Point} → p.bytes ≡ bytes → IsOnward a q start [] p.cursor p.hand p.work → MayRead s end p
+  pub may-onward : {p : Point} {ms : List Occurrence} → p.bytes ≡ bytes → IsOnward a q start ms p.cursor p.hand p.work → MayRead s end p
   may-onward {p} same onward = record {
     alive = (onward.node, onward.stands.there);
     hand = subst (λ (bs : List ℕ). IfSome p.hand (λ b. (p.cursor.at < end) × (b ≡ slice_index bs p.cursor.at))) (sym same) onward.stands.hand;

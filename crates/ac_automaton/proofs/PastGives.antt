@@ -12,7 +12,7 @@ use Rattle.ac_util.proofs.Picks.{same_occurrence}
 use Rattle.ac_util.proofs.Walks.{pick-Occurs}
 use Rattle.ac_automaton.specs.Prelude.{AutomatonView, place_of, plain_of}
 use Rattle.ac_automaton.specs.Commits.{chain_at, ending_in, reads_on}
-use Rattle.ac_automaton.specs.Onward.{chain_of, IsGiven, pending}
+use Rattle.ac_automaton.specs.Cores.{chain_of, IsGiven, pending}
 use Rattle.ac_automaton.specs.declared.automaton.commits.ChainMatch.{ChainMatch}
 use Rattle.ac_automaton.specs.declared.automaton.onward.ChainRest.{ChainRest}
 use Rattle.ac_automaton.specs.declared.automaton.onward.Given.{Given}

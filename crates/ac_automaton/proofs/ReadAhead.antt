@@ -38,7 +38,7 @@ module _ (s : Scan) (t : ScanText) (from : ℕ) (begun : t.start ≤ from) where
   led-node k low up = node-led (k - from) (omega arith) ∙ ap (node s t) (let e : from + (k - from) ≡ k = omega arith in e)
 
 -- a scan that a text has led to the node w has read on there
-module _ {s : Scan} {t : ScanText} {p q : Point} {w : List ℕ} (one_or_two : (s.most ≡ 1) ⊎ (s.most ≡ 2)) (stops : s.stops ≡ true)
+module _ {s : Scan} {t : ScanText} {p q : Point} {w : List ℕ} (one_or_two : (s.most ≡ 1) ⊎ (s.most ≡ 2))
     (same : t.bytes ≡ p.bytes) (alive : IsAlive s t p.cursor) (is : node s t p.cursor.at ≡ Some w) (empty : p.hand ≡ None)
     (scans : HasScanned s p q) (comes : Comes s p w q) (inside : read_to q ≤ length t.bytes) where
   abbrev from : ℕ
@@ -54,11 +54,11 @@ module _ {s : Scan} {t : ScanText} {p q : Point} {w : List ℕ} (one_or_two : (s
       ∙ ap (λ (bs : List ℕ). led s bs (node s t from) from (k - from)) (sym same)
       ∙ led-node s t from alive.is_at.onward k low up
 
-  at-node : node s t q.cursor.at ≡ Some comes.node
+  pub at-node : node s t q.cursor.at ≡ Some comes.node
   at-node = (let o = scans.onward in sym (led-is q.cursor.at o (omega arith))) ∙ comes.leads
 
   -- it was dead nowhere before
-  living : (k : ℕ) → t.start ≤ k → k ≤ q.cursor.at → node s t k ≢ None
+  pub living : (k : ℕ) → t.start ≤ k → k ≤ q.cursor.at → node s t k ≢ None
   living k low up dead = elim (cases_lt k from) [
     | inl before ↦ alive.is_at.alive k low before dead
     | inr beyond ↦
@@ -68,8 +68,8 @@ module _ {s : Scan} {t : ScanText} {p q : Point} {w : List ℕ} (one_or_two : (s
         absurd (let both : None ≡ Some comes.node = sym gone ∙ there ∙ comes.leads in cc)
   ]
 
-  none-to : (k : ℕ) → from < k → k < read_to q → matches_of s.built s.anchored (node s t k) ≡ []
-  none-to k low high =
+  pub none-to : s.stops ≡ true → (k : ℕ) → from < k → k < read_to q → matches_of s.built s.anchored (node s t k) ≡ []
+  none-to stops k low high =
       ap (matches_of s.built s.anchored) (sym (led-is k (omega arith) (omega arith))) ∙ comes.none stops (k - from) (omega arith) (omega arith)
 
   -- what it has read, up to an offset by which its looks are paid
@@ -93,49 +93,56 @@ module _ {s : Scan} {t : ScanText} {p q : Point} {w : List ℕ} (one_or_two : (s
         quiet = scans.quiet;
       }
 
+  pub scans-there : q.hand ≡ None → ScansTo s t from p.work q.cursor.at q.work
+  scans-there none = let h = ap in_hand none in
+      scans-so q.cursor.at (omega arith)
+      (let c = ap (credit m) at-node in let paid = comes.paid in let v = ap (worth s comes.node) none in let z = ap (worth s w) empty in
+      let d = ap (tried s comes.node) none in omega arith)
+
   -- with nothing in hand it is there
-  pub passes-on : q.hand ≡ None → PassesNoMatch s t from p.work q.cursor q.work
-  passes-on none = let h = ap in_hand none in record {
+  pub passes-on : s.stops ≡ true → q.hand ≡ None → PassesNoMatch s t from p.work q.cursor q.work
+  passes-on stops none = let h = ap in_hand none in record {
     is_at = record {
       there = subst (s.stands q.cursor.state) (sym at-node) comes.there;
       onward = (let o = scans.onward in let b = alive.is_at.onward in omega arith);
       inside = omega arith;
       alive = λ k low below. living k low (omega arith);
     };
-    scans = scans-so q.cursor.at (omega arith)
-        (let c = ap (credit m) at-node in let paid = comes.paid in let v = ap (worth s comes.node) none in let z = ap (worth s w) empty in
-        let d = ap (tried s comes.node) none in omega arith);
-    none = λ k low high. none-to k low (omega arith);
+    scans = scans-there none;
+    none = λ k low high. none-to stops k low (omega arith);
   }
 
   -- else it follows the byte in hand into the dead state
-  module _ {byte : ℕ} (some : q.hand ≡ Some byte) (is-byte : byte ≡ slice_index p.bytes q.cursor.at) {gone : Cursor} (past : gone.at ≡ q.cursor.at + 1) (there : s.stands gone.state None)
-    where
-      at-dead : node s t (q.cursor.at + 1) ≡ None
-      at-dead =
-          let h = ap in_hand some in let o = scans.onward in let b = alive.is_at.onward in
-          sym (node-step s t q.cursor.at byte (omega arith) (omega arith) (is-byte ∙ ap (λ (bs : List ℕ). slice_index bs q.cursor.at) (sym same)))
-          ∙ ap (λ (u : Node). step_of s.built s.anchored u byte) at-node
-          ∙ subst (λ (hand : Option ℕ). IfSome hand (λ b. step_of s.built s.anchored (Some comes.node) b ≡ None)) some comes.dead
+  module _ {byte : ℕ} (some : q.hand ≡ Some byte) (is-byte : byte ≡ slice_index p.bytes q.cursor.at) where
+    pub at-dead : node s t (q.cursor.at + 1) ≡ None
+    at-dead =
+        let h = ap in_hand some in let o = scans.onward in let b = alive.is_at.onward in
+        sym (node-step s t q.cursor.at byte (omega arith) (omega arith) (is-byte ∙ ap (λ (bs : List ℕ). slice_index bs q.cursor.at) (sym same)))
+        ∙ ap (λ (u : Node). step_of s.built s.anchored u byte) at-node
+        ∙ subst (λ (hand : Option ℕ). IfSome hand (λ b. step_of s.built s.anchored (Some comes.node) b ≡ None)) some comes.dead
 
-      dead-paid : q.work.counts.looks + credit m (node s t (q.cursor.at + 1))
-          ≤ p.work.counts.looks + credit m (Some w) + m * (q.work.counts.reads - p.work.counts.reads)
-      dead-paid =
-          let c = ap (credit m) at-dead in let paid = comes.paid in let v = ap (worth s comes.node) some in let z = ap (worth s w) empty in
-          let d = ap (tried s comes.node) some in
-          let within = step-within s.most s.built s.anchored (Some comes.node) byte one_or_two in let zero = credit-dead m in omega arith
+    dead-paid : q.work.counts.looks + credit m (node s t (q.cursor.at + 1))
+        ≤ p.work.counts.looks + credit m (Some w) + m * (q.work.counts.reads - p.work.counts.reads)
+    dead-paid =
+        let c = ap (credit m) at-dead in let paid = comes.paid in let v = ap (worth s comes.node) some in let z = ap (worth s w) empty in
+        let d = ap (tried s comes.node) some in
+        let within = step-within s.most s.built s.anchored (Some comes.node) byte one_or_two in let zero = credit-dead m in omega arith
 
-      pub passes-dead : PassesNoMatch s t from p.work gone q.work
-      passes-dead = let h = ap in_hand some in record {
-        is_at = record {
-          there = subst (s.stands gone.state) (sym (ap (node s t) past ∙ at-dead)) there;
-          onward = (let o = scans.onward in let b = alive.is_at.onward in omega arith);
-          inside = omega arith;
-          alive = λ k low below. living k low (omega arith);
-        };
-        scans = subst (λ (k : ℕ). ScansTo s t from p.work k q.work) (sym past) (scans-so (q.cursor.at + 1) (omega arith) dead-paid);
-        none = λ k low high. none-to k low (omega arith);
-      }
+    pub scans-dead : ScansTo s t from p.work (q.cursor.at + 1) q.work
+    scans-dead = let h = ap in_hand some in scans-so (q.cursor.at + 1) (omega arith) dead-paid
+
+    pub passes-dead : s.stops ≡ true → {gone : Cursor} → gone.at ≡ q.cursor.at + 1 → s.stands gone.state None
+        → PassesNoMatch s t from p.work gone q.work
+    passes-dead stops {gone} past there = let h = ap in_hand some in record {
+      is_at = record {
+        there = subst (s.stands gone.state) (sym (ap (node s t) past ∙ at-dead)) there;
+        onward = (let o = scans.onward in let b = alive.is_at.onward in omega arith);
+        inside = omega arith;
+        alive = λ k low below. living k low (omega arith);
+      };
+      scans = subst (λ (k : ℕ). ScansTo s t from p.work k q.work) (sym past) scans-dead;
+      none = λ k low high. none-to stops k low (omega arith);
+    }
 
 -- a text that has led a scan to a cursor has led it to some node there
 alive-node : (s : Scan) (t : ScanText) (cursor : Cursor) → IsAlive s t cursor → (w : List ℕ) × (node s t cursor.at ≡ Some w)
@@ -153,8 +160,8 @@ module _ {s : Scan} {end : ℕ} {tape new_tape : Taped} {cursor there : Cursor} 
       → PassesNoMatch s t cursor.at (work_of tape counts) there (work_of new_tape new_counts)
   passes-read on =
       let n = alive-node s t cursor alive in let l = ap (length {A = ℕ}) same in let w = on.within up in
-      passes-on one_or_two stops same alive n.1 refl on.scans (on.comes n.0 (subst (s.stands cursor.state) n.1 alive.is_at.there))
-      (omega arith) refl
+      passes-on one_or_two same alive n.1 refl on.scans (on.comes n.0 (subst (s.stands cursor.state) n.1 alive.is_at.there))
+      (omega arith) stops refl
 
   -- and where it has followed a byte into the dead state
   pub passes-past : {byte : ℕ} {gone : Cursor} → ReadsOn s end (point cursor None tape counts) (point there (Some byte) new_tape new_counts)
@@ -162,8 +169,8 @@ module _ {s : Scan} {end : ℕ} {tape new_tape : Taped} {cursor there : Cursor} 
       → PassesNoMatch s t cursor.at (work_of tape counts) gone (work_of new_tape new_counts)
   passes-past on past dead =
       let n = alive-node s t cursor alive in let l = ap (length {A = ℕ}) same in let h = on.hand.0 in
-      passes-dead one_or_two stops same alive n.1 refl on.scans (on.comes n.0 (subst (s.stands cursor.state) n.1 alive.is_at.there))
-      (omega arith) refl on.hand.1 past dead
+      passes-dead one_or_two same alive n.1 refl on.scans (on.comes n.0 (subst (s.stands cursor.state) n.1 alive.is_at.there))
+      (omega arith) refl on.hand.1 stops past dead
 
 -- so a scanner has read on that stops at a match, once it has followed a byte into the dead state
 pub advances : {v : ScannerView} {tape : Taped} {cursor : Cursor} {counts : Counts} {dead : Option Dead} {there : Cursor}

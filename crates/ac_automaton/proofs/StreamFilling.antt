@@ -12,7 +12,7 @@ use Rattle.ac_util.proofs.Spans.{take_drop_take}
 use Rattle.ac_util.proofs.Walks.{next-none, walk_after-None}
 use Rattle.ac_automaton.specs.Prelude.{Ended, Failed, HasGivenSettled, Inside, HasSearchedAll, IsStreaming, most_kept, Open, Phase, plain_of, initial_stream, StandsPast, stream_from, Streaming}
 use Rattle.ac_util.proofs.Onward.{after-start}
-use Rattle.ac_automaton.specs.Onward.{pending}
+use Rattle.ac_automaton.specs.Cores.{pending}
 use Rattle.ac_automaton.specs.Streams.{HasGivenFirst}
 use Rattle.ac_automaton.specs.declared.automaton.commits.ChainMatch.{ChainMatch}
 use Rattle.ac_automaton.proofs.StreamRefusals.{allowed-some}

@@ -15,7 +15,8 @@ use Rattle.ac_util.proofs.SearchLoop.{pick-found, pick-goes_on}
 use Rattle.ac_util.proofs.Shortest.{longest-most, none-empty}
 use Rattle.ac_util.proofs.Walks.{pick-Occurs}
 use Rattle.ac_automaton.specs.Prelude.{AutomatonView, Cursor, Inside, IsStreaming, matches_of, node_at, Phase, place_of, plain_of, StandsPast, step_of, stream_from, Streaming}
-use Rattle.ac_automaton.specs.Onward.{first_given, IsRestBefore, pending}
+use Rattle.ac_automaton.specs.Cores.{first_given, pending}
+use Rattle.ac_automaton.specs.Onward.{IsRestBefore}
 use Rattle.ac_automaton.specs.Streams.{streaming_by}
 use Rattle.ac_automaton.specs.Reads.{led, StopsAt}
 use Rattle.ac_automaton.specs.Scans.{scan_of}

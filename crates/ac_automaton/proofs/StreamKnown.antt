@@ -9,7 +9,8 @@ use Rattle.ac_util.proofs.Walks.{pick-Occurs}
 use Rattle.ac_automaton.specs.Prelude.{AutomatonView, Ended, Failed, GivesMatch, Inside, IsStreaming, Phase, place_of, plain_of, stream_from, Streaming}
 use Rattle.ac_automaton.specs.Util.{No}
 use Rattle.ac_automaton.specs.Commits.{chain_at, reads_on}
-use Rattle.ac_automaton.specs.Onward.{IsRestBefore, MayTakeFrom, pending, TakesFrom}
+use Rattle.ac_automaton.specs.Cores.{MayTakeFrom, pending, TakesFrom}
+use Rattle.ac_automaton.specs.Onward.{IsRestBefore}
 use Rattle.ac_automaton.specs.Streams.{streaming_by}
 use Rattle.ac_automaton.specs.declared.automaton.commits.ChainMatch.{ChainMatch}
 use Rattle.ac_automaton.specs.declared.automaton.onward.ChainRest.{ChainRest}

@@ -3,7 +3,7 @@ use Rattle.std.proofs.Common.{◌≡◌, ◌≢◌, ◌⊎◌, ℕ, true, false,
 use Rattle.std.proofs.lemmas.Bool.{false≢true}
 use Rattle.ac_automaton.specs.Util.{Built, is_leftmost, MatchKind, No, Node, Standard}
 use Rattle.ac_automaton.specs.Prelude.{AutomatonView, Cursor, Ended, Inside, IsStreaming, matches_of, Phase, Streaming}
-use Rattle.ac_automaton.specs.Onward.{GivesAt, IsCore}
+use Rattle.ac_automaton.specs.Cores.{GivesAt, IsCore}
 use Rattle.ac_automaton.specs.Commits.{CommitsView, HasCommits, reads_on}
 use Rattle.ac_automaton.specs.Streams.{SettlesBy, streaming_by}
 use Rattle.ac_automaton.specs.declared.automaton.commits.ChainMatch.{ChainMatch}

@@ -10,7 +10,8 @@ use Rattle.ac_util.proofs.Onward.{byte_at}
 use Rattle.ac_util.proofs.Walks.{pick-Occurs}
 use Rattle.ac_automaton.specs.Prelude.{AutomatonView, Cursor, Ended, Inside, IsStreaming, Phase, place_of, plain_of, step_of, stream_from, Streaming}
 use Rattle.ac_automaton.specs.Commits.{reads_on}
-use Rattle.ac_automaton.specs.Onward.{IsGiven, IsRestBefore, pending}
+use Rattle.ac_automaton.specs.Cores.{IsGiven, pending}
+use Rattle.ac_automaton.specs.Onward.{IsRestBefore}
 use Rattle.ac_automaton.specs.Streams.{streaming_by}
 use Rattle.ac_automaton.specs.declared.automaton.commits.ChainMatch.{ChainMatch}
 use Rattle.ac_automaton.specs.declared.automaton.onward.ChainRest.{ChainRest}

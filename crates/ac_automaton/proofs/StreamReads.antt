@@ -4,7 +4,7 @@ use Rattle.std.proofs.lemmas.List.{get_or-drop, get_or_append_left}
 use Rattle.ac_util.specs.Commits.{IsSearchFor, StandsAfter}
 use Rattle.ac_automaton.specs.Util.{is_leftmost, IsSettledBy, LeftmostFirst, LeftmostLongest, MatchKind, No, Occurrence, pattern_of, pick, Search, Standard}
 use Rattle.ac_automaton.specs.Prelude.{AutomatonView, Cursor, Ended, Failed, GivesMatch, HasGivenSettled, Inside, IsStreaming, kept_from, Phase, place_of, plain_of, StandsPast, stream_from, Streaming}
-use Rattle.ac_automaton.specs.Onward.{pending}
+use Rattle.ac_automaton.specs.Cores.{pending}
 use Rattle.ac_automaton.specs.Reads.{Comes, Point, StopsAt}
 use Rattle.ac_automaton.specs.Scans.{scan_of}
 use Rattle.ac_automaton.proofs.LedWalks.{IsSearchOf, led-after}

@@ -1,23 +1,25 @@
 -- A walk that reads on past its matches: where it begins, what it gives, and that what it counts is paid.
-use Rattle.std.proofs.Common.{◌≡◌, ℕ, ◌+◌, ◌-◌, ◌*◌, ◌<◌, ◌≤◌, ◌==◌, if◌then◌else◌, min, Bool, true, false, List, [], length, refl, ap, sym, ◌∙◌, subst, arith, Option, None, Some, IfSome, MatchOption}
+use Rattle.std.proofs.Common.{◌≡◌, ◌⊎◌, ℕ, ◌+◌, ◌-◌, ◌*◌, ◌<◌, ◌≤◌, ◌==◌, if◌then◌else◌, min, Bool, true, false, List, [], length, refl, ap, sym, ◌∙◌, subst, arith, Option, None, Some, IfSome, MatchOption}
 use Rattle.std.specs.Option.{is_some}
 use Rattle.std.proofs.lemmas.Bool.{false≢true}
 use Rattle.std.proofs.lemmas.Option.{IfSome_then}
 use Rattle.std.proofs.lemmas.Grind.{common_steps}
-use Rattle.ac_automaton.specs.Util.{Counts, credit, from, may_skip, next_match, No, no_counts, Occurrence, pick, Search, Span, Taped}
+use Rattle.ac_automaton.specs.Util.{Counts, credit, from, may_skip, next_match, No, no_counts, Occurrence, pick, Search, Span, Taped, usize_max}
 use Rattle.ac_util.proofs.Onward.{after-low, after-start}
 use Rattle.ac_util.proofs.OneLonger.{none-past_end}
 use Rattle.ac_util.proofs.PickedWalks.{next-any}
 use Rattle.ac_util.proofs.Walks.{next-none, walk_after-None}
-use Rattle.ac_automaton.specs.Prelude.{after, AutomatonView, Finding, finding_of, Cursor, GoesOn, Grows, IsByFinds, IsPaid, last_after, looks_beyond, plain_of, reads_past, search_of, Walking, walking_of, Work, work_of}
+use Rattle.ac_automaton.specs.Prelude.{after, AutomatonView, Finding, finding_of, Cursor, GoesOn, Grows, IsByFinds, IsPaid, last_after, looks_beyond, MovesApart, plain_of, reads_past, search_of, Walking, walking_of, Work, work_of}
 use Rattle.ac_automaton.specs.Commits.{reads_on}
 use Rattle.ac_automaton.specs.Iterators.{first_work, reads_past_by}
 use Rattle.ac_automaton.specs.Reads.{in_hand}
-use Rattle.ac_automaton.specs.Onward.{BeginsPast, GoesOnward, HasGiven, IsCounted, IsKept, IsOnward, IsOnwardIn, IsReadingPast, IsRestBefore, kept_work, KeepsOnward, MovesOnward, pending, reached_by}
+use Rattle.ac_automaton.specs.Cores.{GoesBy, MayGo, pending, spot}
+use Rattle.ac_automaton.specs.Onward.{BeginsPast, HasGiven, IsCounted, IsKept, IsOnward, IsOnwardIn, IsReadingPast, IsRestBefore, kept_work, reached_by}
 use Rattle.ac_automaton.specs.declared.automaton.onward.ChainRest.{ChainRest}
 use Rattle.ac_automaton.specs.declared.automaton.onward.Onward.{Onward}
-use Rattle.ac_automaton.specs.declared.automaton.skip.SkipBudget.{SkipBudget}
+use Rattle.ac_automaton.specs.declared.automaton.onward.Position.{Position}
 use Rattle.ac_automaton.proofs.OnwardGives.{within-end}
+use Rattle.ac_automaton.proofs.OnwardGoes.{goes-apart, goes-given, goes-grow, may-go}
 use Rattle.ac_automaton.proofs.OnwardLists.{on-leftmost, on-some}
 use Rattle.ac_automaton.proofs.ReadOn.{grows-same}
 use Rattle.ac_automaton.proofs.WalkLoop.{gives}
@@ -84,14 +86,14 @@ module _ {A M : Type 0} {seen : A → AutomatonView} {o : Onward A M} {finding :
     {last : Option ℕ} {start : ℕ} {counts : Counts} (past : IsReadingPast seen o finding tape span last start counts) where
   pub reads-past : reads_past (walking_of finding tape.bytes span last start (work_of tape counts)) ≡ true
   reads-past =
-      ap (λ (f : Finding). reads_past_by f.picking.order f.anchored f.built.patterns) past.finds ∙ past.lawful.on
+      ap (λ (f : Finding). reads_past_by f.picking.order f.anchored f.built.patterns) past.finds ∙ past.lawful.core.on past.past
 
 -- it has gone on, and is kept so
 pub record HasGonePast {A M : Type 0} (seen : A → AutomatonView) (finding : Finding) (bytes : List ℕ) (span : Span) (last : Option ℕ)
     (start : ℕ) (work : Work) (found : Option Occurrence) (new : Onward A M) (new_tape : Taped) (new_counts : Counts) : Type 0 where
   pub goes_on : GoesOn (walking_of finding bytes span last start work) found
       (walking_of finding new_tape.bytes (record { start = after span.end found; end = span.end }) (last_after last found) start
-      (record { place = reached_by new; counts = new_counts }))
+      (record { place = reached_by new.here; counts = new_counts }))
   pub past : IsReadingPast seen new finding new_tape (record { start = after span.end found; end = span.end }) (last_after last found)
       start new_counts
 
@@ -105,24 +107,22 @@ module _ {A M : Type 0} (seen : A → AutomatonView) (o : Onward A M) (tape : Ta
   abbrev asked : Search
   asked = search_of a.built No tape.bytes span.start span.end
 
-  module _ (cursor : Cursor) (byte : Option ℕ) (rest : Option ChainRest) (budget : SkipBudget) (new_counts : Counts) (place : ℕ) where
+  module _ (here : Position) (ends : here.end ≡ span.end) (new_counts : Counts) (place : ℕ) where
     abbrev work : Work
     work = record { place = place; counts = new_counts }
 
-    abbrev moved : Onward A M
-    moved = record o { cursor = cursor; byte = byte; rest = rest; budget = budget }
-
     -- what it has done, by where it has come to
     abbrev done : Work
-    done = record { place = reached_by moved; counts = new_counts }
+    done = record { place = reached_by here; counts = new_counts }
 
-    goes-by : Grows counts new_counts → MovesOnward o counts moved new_counts → (found : Option Occurrence) → found ≡ pick a.built.kind asked
-        → IsPaid (walking-at a tape.bytes span last start past.lawful.on inside ordered past.begun past.beyond found done) span.start
-        → GoesOn (walking_of (finding_of a No false) tape.bytes span last start (record { place = reached_by o; counts = counts })) found
-        (walking-at a tape.bytes span last start past.lawful.on inside ordered past.begun past.beyond found done)
+    goes-by : Grows counts new_counts → MovesApart (record { place = reached_by o.here; counts = counts }) done → (found : Option Occurrence)
+        → found ≡ pick a.built.kind asked
+        → IsPaid (walking-at a tape.bytes span last start (past.lawful.core.on past.past) inside ordered past.begun past.beyond found done) span.start
+        → GoesOn (walking_of (finding_of a No false) tape.bytes span last start (record { place = reached_by o.here; counts = counts })) found
+        (walking-at a tape.bytes span last start (past.lawful.core.on past.past) inside ordered past.begun past.beyond found done)
     goes-by grows moves found answer paid =
         let same : found ≡ next_match a.built.kind asked last =
-        answer ∙ sym (next-any a.built.kind (plain_of a.built) (on-some a.built past.lawful.on) asked
+        answer ∙ sym (next-any a.built.kind (plain_of a.built) (on-some a.built (past.lawful.core.on past.past)) asked
         (record { free = refl; ordered = ordered; inside = inside; same = refl }) last) in
         record {
           gives = gives a.built.kind asked last found same;
@@ -130,20 +130,24 @@ module _ {A M : Type 0} (seen : A → AutomatonView) (o : Onward A M) (tape : Ta
           same = refl;
           finds = λ not. absurd (false≢true (sym not ∙ reads-past past));
           grows = grows;
-          apart = λ _. record { onward = moves.onward; reads = moves.reads };
+          apart = λ _. moves;
           paid = paid;
         }
 
-    past-by : Grows counts new_counts → MovesOnward o counts moved new_counts → (found : Option Occurrence) → HasGiven a o.core.commits.now.chains asked start found rest cursor byte work
-        → HasGonePast seen (finding_of a No false) tape.bytes span last start (record { place = reached_by o; counts = counts }) found moved
-        (record { bytes = tape.bytes; place = place }) new_counts
+    past-by : Grows counts new_counts → MovesApart (record { place = reached_by o.here; counts = counts }) done → (found : Option Occurrence)
+        → HasGiven a o.core.commits.now.chains asked start found here.rest here.cursor here.byte work
+        → HasGonePast seen (finding_of a No false) tape.bytes span last start (record { place = reached_by o.here; counts = counts }) found
+        (record o { here = here }) (record { bytes = tape.bytes; place = place }) new_counts
     past-by grows moves None given =
-        let paid = paid-ended a tape.bytes span last start past.lawful.on inside ordered past.begun past.beyond {work = done} given.goes in
+        let paid = paid-ended a tape.bytes span last start (past.lawful.core.on past.past) inside ordered past.begun past.beyond {work = done}
+        given.goes in
         record {
           goes_on = goes-by grows moves None given.answer (paid span.start (omega arith));
           past = record {
             finds = refl;
-            lawful = record { past = past.lawful.past; on = past.lawful.on; starts = past.lawful.starts; commits = past.lawful.commits; skips = past.lawful.skips; needle = past.lawful.needle };
+            lawful = past.lawful;
+            past = past.past;
+            ends = ends;
             begun = (let b = past.begun in omega arith);
             legal = omega arith;
             beyond = IfSome_then last past.beyond (λ e b. omega arith);
@@ -156,11 +160,13 @@ module _ {A M : Type 0} (seen : A → AutomatonView) (o : Onward A M) (tape : Ta
         let onward = given.goes.1 in
         record {
           goes_on = goes-by grows moves (Some m) given.answer
-              (paid-given a tape.bytes span last start past.lawful.on inside ordered past.begun past.beyond m onward given.looks
-              (reached_by moved));
+              (paid-given a tape.bytes span last start (past.lawful.core.on past.past) inside ordered past.begun past.beyond m onward given.looks
+              (reached_by here));
           past = record {
             finds = refl;
-            lawful = record { past = past.lawful.past; on = past.lawful.on; starts = past.lawful.starts; commits = past.lawful.commits; skips = past.lawful.skips; needle = past.lawful.needle };
+            lawful = past.lawful;
+            past = past.past;
+            ends = ends;
             begun = onward.begun;
             legal = (let h = onward.ordered in omega arith);
             beyond = omega arith;
@@ -170,31 +176,15 @@ module _ {A M : Type 0} (seen : A → AutomatonView) (o : Onward A M) (tape : Ta
           };
         }
 
--- it has gone on by what it has given
-pub past-goes : {A M : Type 0} {seen : A → AutomatonView} {o : Onward A M} {finding : Finding} {tape : Taped} {span : Span}
-    {last : Option ℕ} {start : ℕ} {counts : Counts} → span.end ≤ length tape.bytes → span.start ≤ span.end
-    → IsReadingPast seen o finding tape span last start counts → (found : Option Occurrence) (new : Onward A M) (new_tape : Taped)
-    (new_counts : Counts) → Grows counts new_counts → MovesOnward o counts new new_counts → KeepsOnward o new → new_tape.bytes ≡ tape.bytes
-    → GoesOnward seen o span tape counts found new new_tape new_counts
-    → HasGonePast seen finding tape.bytes span last start (record { place = reached_by o; counts = counts }) found new new_tape new_counts
-past-goes {A} {M} {seen} {o} {finding} {tape} {span} {last} {start} {counts} inside ordered past found new new_tape new_counts grows moves keeps bytes goes =
-    subst (λ (f : Finding). HasGonePast seen f tape.bytes span last start (record { place = reached_by o; counts = counts }) found new new_tape new_counts) (sym past.finds)
-    (subst (λ (n : Onward A M). HasGonePast seen (finding_of (seen o.core.automaton.now) No false) tape.bytes span last start (record { place = reached_by o; counts = counts })
-    found n new_tape new_counts) (sym keeps)
-    (subst (λ (bs : List ℕ). HasGonePast seen (finding_of (seen o.core.automaton.now) No false) tape.bytes span last start (record { place = reached_by o; counts = counts })
-    found (record o { cursor = new.cursor; byte = new.byte; rest = new.rest; budget = new.budget }) (record { bytes = bs; place = new_tape.place }) new_counts)
-    (sym bytes)
-    (past-by seen o tape span last start counts inside ordered
-    (subst (λ (f : Finding). IsReadingPast seen o f tape span last start counts) past.finds past)
-    new.cursor new.byte new.rest new.budget new_counts new_tape.place grows (record { onward = moves.onward; reads = moves.reads }) found (goes start (past.onward ordered)))))
-
 -- a new tape changes nothing of it
-pub with-fresh : {A M : Type 0} {seen : A → AutomatonView} {o : Onward A M} {finding : Finding} {tape : Taped} {span : Span}
+with-fresh : {A M : Type 0} {seen : A → AutomatonView} {o : Onward A M} {finding : Finding} {tape : Taped} {span : Span}
     {last : Option ℕ} {start : ℕ} {counts : Counts} → IsReadingPast seen o finding tape span last start counts
     → IsReadingPast seen o finding (fresh tape.bytes) span last start counts
 with-fresh past = record {
   finds = past.finds;
   lawful = past.lawful;
+  past = past.past;
+  ends = past.ends;
   begun = past.begun;
   legal = past.legal;
   beyond = past.beyond;
@@ -210,23 +200,43 @@ with-fresh past = record {
   ended = past.ended;
 }
 
--- it has gone on with a new tape by what it has given
-pub fresh-goes : {A M : Type 0} {seen : A → AutomatonView} {o : Onward A M} {finding : Finding} {tape : Taped} {span : Span}
-    {last : Option ℕ} {start : ℕ} {counts : Counts} → span.end ≤ length tape.bytes → span.start ≤ span.end
-    → IsReadingPast seen o finding tape span last start counts → (new : Taped) → new ≡ fresh tape.bytes → (found : Option Occurrence)
-    (new_onward : Onward A M) (new_tape : Taped) (new_counts : Counts) → Grows counts new_counts → MovesOnward o counts new_onward new_counts → KeepsOnward o new_onward → new_tape.bytes ≡ new.bytes
-    → GoesOnward seen o span new counts found new_onward new_tape new_counts
-    → HasGonePast seen finding tape.bytes span last start (record { place = reached_by o; counts = counts }) found new_onward new_tape new_counts
-fresh-goes {seen = seen} {o = o} {finding = finding} {tape = tape} {span = span} {last = last} {start = start} {counts = counts} inside ordered past new is found new_onward new_tape new_counts grows moves keeps bytes goes =
-    past-goes inside ordered (with-fresh past) found new_onward new_tape new_counts grows moves keeps (bytes ∙ ap (λ (t : Taped). t.bytes) is)
-    (subst (λ (t : Taped). GoesOnward seen o span t counts found new_onward new_tape new_counts) is goes)
+-- it may go on with a new tape
+module _ {A M : Type 0} {seen : A → AutomatonView} {o : Onward A M} {finding : Finding} {tape : Taped} {span : Span} {last : Option ℕ}
+    {start : ℕ} {counts : Counts} (inside : span.end ≤ length tape.bytes) (ordered : span.start ≤ span.end)
+    (past : IsReadingPast seen o finding tape span last start counts) {new : Taped} (is : new ≡ fresh tape.bytes) where
+  pub may-next : span.end < usize_max → MayGo seen o.core (spot o.here new counts)
+  may-next small =
+      let f = with-fresh past in
+      subst (λ (t : Taped). MayGo seen o.core (spot o.here t counts)) (sym is)
+      (may-go seen o.core past.lawful past.past (fresh tape.bytes) counts span.start span.end start inside o.here past.ends
+      (f.onward ordered) (past.sound ordered) small)
+
+  -- and has gone on by what it has given
+  pub fresh-goes : ((seen o.core.automaton.now).most ≡ 1) ⊎ ((seen o.core.automaton.now).most ≡ 2) → (found : Option Occurrence)
+      (here : Position) (new_tape : Taped) (new_counts : Counts) → new_tape.bytes ≡ new.bytes → here.end ≡ o.here.end
+      → GoesBy seen o.core (spot o.here new counts) found (spot here new_tape new_counts)
+      → HasGonePast seen finding tape.bytes span last start (record { place = reached_by o.here; counts = counts }) found
+      (record o { here = here }) new_tape new_counts
+  fresh-goes one_or_two found here new_tape new_counts bytes end goes =
+      let f = with-fresh past in
+      let g = subst (λ (t : Taped). GoesBy seen o.core (spot o.here t counts) found (spot here new_tape new_counts)) is goes in
+      subst (λ (f : Finding). HasGonePast seen f tape.bytes span last start (record { place = reached_by o.here; counts = counts }) found
+      (record o { here = here }) new_tape new_counts) (sym past.finds)
+      (subst (λ (bs : List ℕ). HasGonePast seen (finding_of (seen o.core.automaton.now) No false) tape.bytes span last start
+      (record { place = reached_by o.here; counts = counts }) found (record o { here = here })
+      (record { bytes = bs; place = new_tape.place }) new_counts) (sym (bytes ∙ ap (λ (t : Taped). t.bytes) is))
+      (past-by seen o (fresh tape.bytes) span last start counts inside ordered
+      (subst (λ (f : Finding). IsReadingPast seen o f (fresh tape.bytes) span last start counts) past.finds f) here (end ∙ past.ends) new_counts new_tape.place
+      (goes-grow g) (goes-apart g) found
+      (goes-given seen o.core past.lawful past.past (fresh tape.bytes) counts span.start span.end start inside o.here past.ends (f.onward ordered)
+      (past.sound ordered) one_or_two g)))
 
 -- past the end of its span it gives nothing more
 pub past-over : {A M : Type 0} {seen : A → AutomatonView} {o : Onward A M} {finding : Finding} {tape : Taped} {span : Span}
     {last : Option ℕ} {start : ℕ} {counts : Counts} → span.end < span.start
     → IsReadingPast seen o finding tape span last start counts
-    → GoesOn (walking_of finding tape.bytes span last start (record { place = reached_by o; counts = counts })) None
-    (walking_of finding tape.bytes span last start (record { place = reached_by o; counts = counts }))
+    → GoesOn (walking_of finding tape.bytes span last start (record { place = reached_by o.here; counts = counts })) None
+    (walking_of finding tape.bytes span last start (record { place = reached_by o.here; counts = counts }))
 past-over {o = o} {finding = finding} {tape = tape} {span = span} {last = last} {start = start} {counts = counts} over past =
     let q = search_of finding.built finding.anchored tape.bytes span.start span.end in
     let none = next-none finding.picking.order q last (none-past_end finding.picking.order q over) in
@@ -235,7 +245,7 @@ past-over {o = o} {finding = finding} {tape = tape} {span = span} {last = last} 
     record {
       gives = (empty, empty);
       next = sym none;
-      same = ap (λ (k : ℕ). record (walking_of finding tape.bytes span last start (record { place = reached_by o; counts = counts })) { left = from q k }) ends;
+      same = ap (λ (k : ℕ). record (walking_of finding tape.bytes span last start (record { place = reached_by o.here; counts = counts })) { left = from q k }) ends;
       finds = λ not. absurd (false≢true (sym not ∙ reads-past past));
       grows = grows-same counts;
       apart = λ _. record { onward = omega arith; reads = omega arith };
@@ -293,14 +303,14 @@ module _ {A M : Type 0} {seen : A → AutomatonView} {finding : Finding} {bytes 
     (at : ℕ) (there : at ≡ after span.end found) (ended : Option ℕ) (ends : ended ≡ last_after last found) where
   pub gone-goes : {now : Walking} → walking_of finding bytes span last start work ≡ now
       → GoesOn now found
-      (walking_of finding new_tape.bytes (record { start = at; end = span.end }) ended start (record { place = reached_by new; counts = new_counts }))
+      (walking_of finding new_tape.bytes (record { start = at; end = span.end }) ended start (record { place = reached_by new.here; counts = new_counts }))
   gone-goes {now} is =
       subst (λ (w : Walking). GoesOn w found
-      (walking_of finding new_tape.bytes (record { start = at; end = span.end }) ended start (record { place = reached_by new; counts = new_counts }))) is
+      (walking_of finding new_tape.bytes (record { start = at; end = span.end }) ended start (record { place = reached_by new.here; counts = new_counts }))) is
       (subst (λ (k : ℕ). GoesOn (walking_of finding bytes span last start work) found
-      (walking_of finding new_tape.bytes (record { start = k; end = span.end }) ended start (record { place = reached_by new; counts = new_counts }))) (sym there)
+      (walking_of finding new_tape.bytes (record { start = k; end = span.end }) ended start (record { place = reached_by new.here; counts = new_counts }))) (sym there)
       (subst (λ (l : Option ℕ). GoesOn (walking_of finding bytes span last start work) found
-      (walking_of finding new_tape.bytes (record { start = after span.end found; end = span.end }) l start (record { place = reached_by new; counts = new_counts })))
+      (walking_of finding new_tape.bytes (record { start = after span.end found; end = span.end }) l start (record { place = reached_by new.here; counts = new_counts })))
       (sym ends) gone.goes_on))
 
   pub gone-past : IsReadingPast seen new finding new_tape (record { start = at; end = span.end }) ended start new_counts
@@ -320,7 +330,7 @@ credit-start most = either-way (most == 1) 0
 -- a walk that begins is kept
 module _ {A M : Type 0} (seen : A → AutomatonView) (finding : Finding) (bytes : List ℕ) (span : Span) (legal : span.start ≤ span.end + 1)
     (inside : span.end ≤ length bytes) where
-  begins-reading : (o : Onward A M) → BeginsPast seen finding span.start o
+  begins-reading : (o : Onward A M) → BeginsPast seen finding span o
       → IsReadingPast seen o finding (fresh bytes) span None span.start no_counts
   begins-reading o begins =
       let a = seen o.core.automaton.now in
@@ -328,7 +338,7 @@ module _ {A M : Type 0} (seen : A → AutomatonView) (finding : Finding) (bytes 
       λ ordered. record {
         node = [];
         stands = record {
-          there = begins.lawful.starts;
+          there = begins.lawful.core.starts;
           after = after-start a.built.kind (plain_of a.built)
               (search_of a.built No bytes span.start span.end) (record { free = refl; ordered = ordered; inside = inside; same = refl });
           hand = tt;
@@ -348,14 +358,16 @@ module _ {A M : Type 0} (seen : A → AutomatonView) (finding : Finding) (bytes 
       record {
         finds = begins.finds;
         lawful = begins.lawful;
+        past = begins.past;
+        ends = begins.ends;
         begun = omega arith;
         legal = legal;
         beyond = tt;
         sound = λ up. subst (IsRestBefore o.core.commits.now.chains span.start) (sym begins.rest) tt;
         onward = λ ordered.
             subst (λ (rest : Option ChainRest). IsOnwardIn a (fresh bytes) span.start span.end span.start
-            (pending a.built o.core.commits.now.chains rest) o.cursor o.byte no_counts) (sym begins.rest)
-            (subst (λ (b : Option ℕ). IsOnwardIn a (fresh bytes) span.start span.end span.start [] o.cursor b no_counts) (sym begins.byte)
+            (pending a.built o.core.commits.now.chains rest) o.here.cursor o.here.byte no_counts) (sym begins.rest)
+            (subst (λ (b : Option ℕ). IsOnwardIn a (fresh bytes) span.start span.end span.start [] o.here.cursor b no_counts) (sym begins.byte)
             (subst (λ (k : Cursor). IsOnwardIn a (fresh bytes) span.start span.end span.start [] k None no_counts) (sym begins.cursor)
             (at-start ordered)));
         ended = λ over. record {
@@ -370,32 +382,32 @@ module _ {A M : Type 0} (seen : A → AutomatonView) (finding : Finding) (bytes 
       }
 
   begins-kept : (r : Option (Onward A M))
-      → MatchOption r (reads_past_by finding.picking.order finding.anchored finding.built.patterns ≡ false) (BeginsPast seen finding span.start)
+      → MatchOption r (reads_past_by finding.picking.order finding.anchored finding.built.patterns ≡ false) (BeginsPast seen finding span)
       → IsKept seen finding (fresh bytes) span None span.start no_counts r
   begins-kept None finds = record { by = record { by_finds = finds; under_way = grind (arith, common_steps) } }
   begins-kept (Some o) begins = record { by = begins-reading o begins }
 
 -- and has done nothing
-pub work-first : {A M : Type 0} (seen : A → AutomatonView) (finding : Finding) (at : ℕ) {bytes : List ℕ} {tape : Taped} {counts : Counts}
+pub work-first : {A M : Type 0} (seen : A → AutomatonView) (finding : Finding) (span : Span) {bytes : List ℕ} {tape : Taped} {counts : Counts}
     (r : Option (Onward A M)) → tape ≡ record { bytes = bytes; place = 0 } → counts ≡ no_counts
-    → MatchOption r (reads_past_by finding.picking.order finding.anchored finding.built.patterns ≡ false) (BeginsPast seen finding at)
-    → kept_work r tape counts ≡ first_work finding at
-work-first seen finding at {counts = counts} None fresh none finds =
+    → MatchOption r (reads_past_by finding.picking.order finding.anchored finding.built.patterns ≡ false) (BeginsPast seen finding span)
+    → kept_work r tape counts ≡ first_work finding span.start
+work-first seen finding span {counts = counts} None fresh none finds =
     ap (λ (t : Taped). record { place = t.place; counts = counts }) fresh
     ∙ ap (λ (c : Counts). record { place = 0; counts = c }) none
-    ∙ ap (λ (t : Bool). record { place = if t then at else 0; counts = no_counts }) (sym finds)
-work-first seen finding at {counts = counts} (Some o) fresh none begins =
+    ∙ ap (λ (t : Bool). record { place = if t then span.start else 0; counts = no_counts }) (sym finds)
+work-first seen finding span {counts = counts} (Some o) fresh none begins =
     let there = ap (λ (k : Cursor). k.at) begins.cursor in let hand = ap in_hand begins.byte in
-    ap (λ (k : ℕ). record { place = k; counts = counts }) (let e : reached_by o ≡ at = omega arith in e)
-    ∙ ap (λ (c : Counts). record { place = at; counts = c }) none
-    ∙ ap (λ (t : Bool). record { place = if t then at else 0; counts = no_counts })
-    (sym (ap (λ (f : Finding). reads_past_by f.picking.order f.anchored f.built.patterns) begins.finds ∙ begins.lawful.on))
+    ap (λ (k : ℕ). record { place = k; counts = counts }) (let e : reached_by o.here ≡ span.start = omega arith in e)
+    ∙ ap (λ (c : Counts). record { place = span.start; counts = c }) none
+    ∙ ap (λ (t : Bool). record { place = if t then span.start else 0; counts = no_counts })
+    (sym (ap (λ (f : Finding). reads_past_by f.picking.order f.anchored f.built.patterns) begins.finds ∙ begins.lawful.core.on begins.past))
 
 -- with a tape of which nothing was read
 pub kept-first : {A M : Type 0} {seen : A → AutomatonView} {finding : Finding} {bytes : List ℕ} {tape : Taped} {span : Span} {start : ℕ}
     {counts : Counts} {r : Option (Onward A M)} → tape ≡ record { bytes = bytes; place = 0 } → start ≡ span.start → counts ≡ no_counts
     → span.start ≤ span.end + 1 → span.end ≤ length bytes
-    → MatchOption r (reads_past_by finding.picking.order finding.anchored finding.built.patterns ≡ false) (BeginsPast seen finding span.start)
+    → MatchOption r (reads_past_by finding.picking.order finding.anchored finding.built.patterns ≡ false) (BeginsPast seen finding span)
     → IsKept seen finding tape span None start counts r
 kept-first {A} {M} {seen} {finding} {bytes} {tape} {span} {start} {counts} {r} new-tape first none legal inside begins =
     subst (λ (t : Taped). IsKept seen finding t span None start counts r) (sym new-tape)

@@ -9,6 +9,7 @@ use Rattle.ac_util.specs.declared.search.Anchored.{Anchored}
 use Rattle.ac_automaton.specs.Util.{AnswersStream, AnswersUnless, AnswersWhole, Built, FailsToReplace, FailsToReplaceWith, Reading, ReplacesStream, ReplacesStreamWith, Writing, exchanged, exchanged_in_text, InputView, IsStreamRefused, find_refusal, find_result, MakesSteps, MatchError, Occurrence, overlapping_iter_refusal, overlapping_refusal, replace_refusal, replaced, ReplaceError, search_in, start_refusal, StepsLead, stream_refusal, StreamError}
 use Rattle.ac_automaton.specs.declared.automaton.overlap.OverlappingState.{OverlappingState}
 use Rattle.ac_automaton.specs.Automata.{AutomatonView}
+use Rattle.ac_automaton.specs.Finds.{Finding, finding_of}
 use Rattle.ac_automaton.specs.Iterators.{Walking, initial_walk}
 use Rattle.ac_automaton.specs.Overlaps.{GivesNext, IsPlaced, Overlapping, initial_listing}
 
@@ -17,6 +18,10 @@ abbrev pub BeginsBy : {X : Type 0} → AutomatonView → Anchored → (X → Typ
 BeginsBy a anchored Begun result =
     MatchResult result (λ x. (start_refusal a.built.start_kind anchored ≡ None) × Begun x)
     (λ e. start_refusal a.built.start_kind anchored ≡ Some e)
+
+-- a finder of the automaton, with `earliest` or without
+abbrev pub BeginsFinder : AutomatonView → Anchored → Bool → Result Finding MatchError → Type 0
+BeginsFinder a anchored earliest result = BeginsBy a anchored (λ f. f ≡ finding_of a anchored earliest) result
 
 -- what a find answers
 abbrev pub AnswersFind : Built → InputView → Result (Option Occurrence) MatchError → Type 0

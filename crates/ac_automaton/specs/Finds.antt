@@ -1,7 +1,7 @@
 -- By which order a find picks, what it answers, and when it has read enough.
-use Rattle.std.specs.Prelude.{ℕ, Bool, ◌≡◌, ◌≢◌, ◌⊎◌, ◌↔◌, IsTrue, ◌+◌, ◌-◌, ◌<◌, ◌≤◌, false, true, List, [], Option, None, Some, IfSome, option_map, slice_get, length, max}
+use Rattle.std.specs.Prelude.{ℕ, Bool, ◌≡◌, ◌≢◌, ◌⊎◌, ◌↔◌, IsTrue, ◌+◌, ◌-◌, ◌≤◌, false, true, List, Option, None, IfSome, option_map, slice_get, length, max, nat_lt}
 use Rattle.ac_util.specs.declared.search.Anchored.{Anchored}
-use Rattle.ac_automaton.specs.Util.{Built, MatchKind, order_of, InputView, Counts, depth, is_leftmost, may_skip, Node, Occurrence, occurrence, pattern_of, pick, Search, Span, Standard, Taped, usize_max, Yes}
+use Rattle.ac_automaton.specs.Util.{Built, find_result, MatchKind, order_of, InputView, Counts, depth, is_leftmost, may_skip, No, Node, Occurrence, occurrence, pattern_of, pick, Search, shortest_len, Span, Standard, Taped, usize_max, Yes}
 use Rattle.ac_automaton.specs.Automata.{AutomatonView, matches_of}
 use Rattle.ac_automaton.specs.declared.automaton.scan.Cursor.{Cursor}
 use Rattle.ac_automaton.specs.Scans.{HasRead, StopsAtDead, Work, most_looks, node_at, search_of, work_of, IsAt, Scan, ScannerView, ScansTo, ScanText, in_memory, node, search_through}
@@ -30,10 +30,19 @@ abbrev pub finding_of : AutomatonView → Anchored → Bool → Finding
 finding_of a anchored earliest =
     record { built = a.built; anchored = anchored; picking = picking_of a.most a.built.kind a.wants_prefilter earliest }
 
+-- whether a match may be picked anywhere in a span: the search isn't anchored, and no pattern is empty
+abbrev pub is_free : Anchored → List (List ℕ) → Bool
+is_free No patterns = nat_lt 0 (shortest_len patterns)
+is_free Yes patterns = false
+
 -- what a core is asked: a span of the bytes of a tape, and two options
-abbrev pub input_over : List ℕ → ℕ → ℕ → Anchored → Bool → InputView
-input_over bytes start end anchored earliest =
+abbrev pub asked : List ℕ → ℕ → ℕ → Anchored → Bool → InputView
+asked bytes start end anchored earliest =
     record { haystack = bytes; start = start; end = end; anchored = anchored; earliest = earliest }
+
+-- what it answers
+abbrev pub found_by : AutomatonView → InputView → Option Occurrence
+found_by a input = find_result a.built input
 
 -- unless the prefilter was called, the place of reading is past the match, and each byte from the start of the
 -- span to the end of the match was read
@@ -119,16 +128,6 @@ pub record MayFind (v : ScannerView) (stops : Bool) (tape : Taped) (cursor : Cur
   pub unread : tape.place ≤ cursor.at
   pub small : v.span.end ≤ usize_max
   pub ready : IsReady v.scan (in_memory tape.bytes v.span) stops cursor
-
--- it may begin there: its automaton is at its start, no byte of the span was read, and one is left
-pub record MayBegin (v : ScannerView) (stops : Bool) (tape : Taped) (cursor : Cursor) : Type 0 where
-  pub starts : v.scan.stands cursor.state (Some [])
-  pub there : cursor.at ≡ v.span.start
-  pub small : v.span.end ≤ usize_max
-  pub leftmost : stops ≡ false → is_leftmost v.scan.built.kind ≡ true
-  pub before_end : cursor.at < v.span.end
-  pub inside : v.span.end ≤ length tape.bytes
-  pub unread : tape.place ≤ cursor.at
 
 -- it has answered, whatever was done before the cursor
 pub record FindsOn (v : ScannerView) (stops : Bool) (cursor : Cursor) (tape : Taped) (counts : Counts)

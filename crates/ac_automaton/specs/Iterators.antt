@@ -1,10 +1,10 @@
 -- What is seen of an iterator over matches.
-use Rattle.std.specs.Prelude.{◌≡◌, ℕ, ◌+◌, ◌-◌, ◌*◌, ◌<◌, ◌≤◌, Bool, false, true, ◌&&◌, ◌||◌, not, if◌then◌else◌, nat_lt, length, MatchBool, List, Option, None, Some, IfSome, min}
+use Rattle.std.specs.Prelude.{◌≡◌, ℕ, ◌+◌, ◌-◌, ◌*◌, ◌<◌, ◌≤◌, Bool, false, true, ◌&&◌, ◌||◌, not, if◌then◌else◌, length, MatchBool, List, Option, None, Some, IfSome, min}
 use Rattle.std.specs.Iterator.{YieldsFirst}
 use Rattle.ac_util.specs.declared.search.Anchored.{Anchored}
-use Rattle.ac_automaton.specs.Util.{InputView, Built, from, input_of, is_leftmost, LeftmostFirst, LeftmostLongest, MatchKind, may_skip, next_match, No, no_counts, Occurrence, pick, repeats, Search, shortest_len, Span, Standard, walk_after, Yes}
+use Rattle.ac_automaton.specs.Util.{InputView, Built, from, input_of, is_leftmost, LeftmostFirst, LeftmostLongest, MatchKind, may_skip, next_match, no_counts, Occurrence, pick, repeats, Search, shortest_len, Span, Standard, walk_after}
 use Rattle.ac_automaton.specs.declared.automaton.walk.TapedFinder.{TapedFinder}
-use Rattle.ac_automaton.specs.Finds.{Finding, Picking, picking_of, HasSearched}
+use Rattle.ac_automaton.specs.Finds.{Finding, is_free, Picking, picking_of, HasSearched}
 use Rattle.ac_automaton.specs.Scans.{Grows, Work, most_looks, search_of, work_of}
 
 -- the matches still to come; the finds that it makes; the search that is left, and where the match before it ended, if
@@ -93,15 +93,10 @@ pub record KeepsInput {A M : Type 0} (old new : TapedFinder A M) : Type 0 where
   pub input : new.input ≡ old.input
   pub bytes : new.tape.bytes ≡ old.tape.bytes
 
--- whether a search may find matches anywhere in its span
-abbrev pub is_free : Anchored → Bool
-is_free No = true
-is_free Yes = false
-
 -- whether a walk reads on past its matches, so that it reads each byte once: it isn't anchored, it prefers what starts first, and no
 -- pattern is empty
 abbrev pub reads_past_by : MatchKind → Anchored → List (List ℕ) → Bool
-reads_past_by order anchored patterns = is_free anchored && (is_leftmost order && nat_lt 0 (shortest_len patterns))
+reads_past_by order anchored patterns = is_leftmost order && is_free anchored patterns
 
 abbrev pub reads_past : Walking → Bool
 reads_past walking = reads_past_by walking.picking.order walking.left.anchored walking.left.patterns

@@ -3,6 +3,7 @@ pub mod Automata
 pub mod Builds
 pub mod Commits
 pub mod Committing
+pub mod Cores
 pub mod Exchanges
 pub mod Finds
 pub mod Growths

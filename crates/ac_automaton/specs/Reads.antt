@@ -1,12 +1,13 @@
 -- How a scan reads on from one point to another: by which bytes, and what it has counted.
 use Rattle.std.specs.Prelude.{◌≡◌, ◌⊎◌, ◌≢◌, ℕ, zero, suc, ◌+◌, ◌-◌, ◌*◌, ◌<◌, ◌≤◌, false, true, List, [], length, max, slice_index, Option, None, Some, IfSome, option_map}
 use Rattle.ac_automaton.specs.Util.{Counts, credit, may_skip, Node, Taped}
-use Rattle.ac_automaton.specs.Automata.{IsLiveState, looks_of, matches_of, step_of}
+use Rattle.ac_automaton.specs.Automata.{AutomatonView, IsLiveState, looks_of, matches_of, step_of}
 use Rattle.ac_automaton.specs.declared.automaton.scan.Cursor.{Cursor}
 use Rattle.ac_automaton.specs.declared.automaton.scan.Dead.{Dead}
+use Rattle.ac_automaton.specs.declared.automaton.scan.Scanner.{Scanner}
 use Rattle.ac_automaton.specs.declared.automaton.skip.ToStart.{ToStart}
 use Rattle.ac_automaton.specs.declared.automaton.skip.ToStart.TheVariants.{Stopped, There}
-use Rattle.ac_automaton.specs.Scans.{Grows, most_looks, Scan, search_of, Work, work_of}
+use Rattle.ac_automaton.specs.Scans.{Grows, most_looks, Scan, scanner, search_of, Work, work_of}
 
 -- how many bytes are in hand
 abbrev pub in_hand : Option ℕ → ℕ
@@ -153,3 +154,29 @@ ReadsToStart s end p (Stopped dead) q = ReadsToStop s end p dead q
 abbrev pub entered : Option Dead → Cursor → Cursor
 entered None cursor = cursor
 entered (Some dead) cursor = dead.next
+
+-- a point with nothing in hand
+abbrev pub at : Cursor → Taped → Counts → Point
+at cursor tape counts = point cursor None tape counts
+
+-- a scanner reads within its span
+module _ {A M : Type 0} (seen : A → AutomatonView) (s : Scanner A M) where
+  -- it may read on
+  abbrev pub MayScan : Point → Type 0
+  MayScan p = MayRead (scanner seen s).scan s.span.end p
+
+  -- it tries the byte at a point, and answers that and the state to which it leads
+  abbrev pub TriesAt : Point → ℕ × ℕ → Work → Type 0
+  TriesAt p result work = Tries (scanner seen s).scan p result.0 result.1 work
+
+  -- it reads on by a piece, and answers the byte that leads to the dead state
+  abbrev pub Moves : Point → Option Dead → Point → Type 0
+  Moves p dead q = ReadsFurther (scanner seen s).scan s.span.end p dead (record q { hand = hand_of dead })
+
+  -- it reads on as far as it reads
+  abbrev pub Scans : Point → Option Dead → Point → Type 0
+  Scans p dead q = ReadsToStop (scanner seen s).scan s.span.end p dead (record q { hand = hand_of dead })
+
+  -- or to its start
+  abbrev pub Seeks : Point → ToStart → Point → Type 0
+  Seeks p stop q = ReadsToStart (scanner seen s).scan s.span.end p stop (record q { hand = hand_at stop })

@@ -6,7 +6,6 @@ use Rattle.ac_automaton.specs.Util.{Built, Counts, MatchKind, No, no_counts, Nod
 use Rattle.ac_automaton.specs.declared.automaton.scan.Cursor.{Cursor}
 use Rattle.ac_automaton.specs.declared.automaton.scan.Scanner.{Scanner}
 use Rattle.ac_automaton.specs.Automata.{AutomatonView, matches_of}
-use Rattle.ac_util.specs.Prefilters.Skip.{Needle}
 
 -- how many looks a search may take for each byte read, where an unanchored one may take `most`: an anchored one
 -- follows no failure link, so it looks once
@@ -208,8 +207,3 @@ pub record Skips (wants_prefilter : Bool) (built : Built) (skip : Skip) : Type 0
 pub record SkipsTo (s : Scan) (bytes : List ℕ) : Type 0 where
   pub unanchored : s.anchored ≡ No
   pub skips : Skips s.wants_prefilter s.built (FirstOf bytes)
-
--- a scan may skip to its only pattern
-pub record SkipsToNeedle (s : Scan) (needle : List ℕ) : Type 0 where
-  pub unanchored : s.anchored ≡ No
-  pub skips : Skips s.wants_prefilter s.built (Needle needle)

@@ -9,7 +9,9 @@ use Rattle.ac_automaton.specs.declared.automaton.onward.ChainRest.{ChainRest}
 use Rattle.ac_automaton.specs.declared.automaton.onward.Given.{Given}
 use Rattle.ac_automaton.specs.Automata.{AutomatonView, plain_of}
 use Rattle.ac_automaton.specs.Commits.{CommitsView, HasCommits}
-use Rattle.ac_automaton.specs.Onward.{GivesAt, IsRestBefore, pending}
+use Rattle.ac_automaton.specs.Cores.{GivesIn, pending}
+use Rattle.ac_automaton.specs.declared.automaton.onward.Core.{Core}
+use Rattle.ac_automaton.specs.Onward.{IsRestBefore}
 use Rattle.ac_automaton.specs.Reads.{HasReadOn}
 use Rattle.ac_automaton.specs.Scans.{Scan, search_of, Work}
 use Rattle.ac_automaton.specs.declared.automaton.scan.Cursor.{Cursor}
@@ -293,10 +295,10 @@ abbrev pub SettlesBy : Bool → Option ℕ → Phase → Type 0
 SettlesBy stops byte phase = (stops ≡ true) ⊎ ((byte ≢ None) ⊎ (phase ≡ Ended))
 
 -- that is given which leaves a state, where it is settled
-abbrev pub GivesSettled : AutomatonView → List (List ChainMatch) → ℕ → Bool → ℕ → Option ℕ → Phase → Option Given → Type 0
-GivesSettled a chains start stops s byte phase result =
-    MatchOption result (SettlesBy stops byte phase → GivesAt a chains start stops s None)
-    (λ given. SettlesBy stops byte phase × GivesAt a chains start stops s (Some given))
+abbrev pub GivesSettled : {A M : Type 0} → (A → AutomatonView) → Core A M → ℕ → Option ℕ × Phase → Option Given → Type 0
+GivesSettled seen k state at result =
+    MatchOption result (SettlesBy k.stops at.0 at.1 → GivesIn seen k state None)
+    (λ given. SettlesBy k.stops at.0 at.1 × GivesIn seen k state (Some given))
 
 -- what is seen of an iterator over the matches of a stream: the search, and its reader
 pub record StreamReading : Type 0 where

@@ -1,19 +1,16 @@
 //! The core of every find.
-ghost use Rattle.std.specs.Prelude.{◌≡◌, ◌<◌, ◌↔◌, false, true, IsTrue, MatchOption, None};
-ghost use Rattle.ac_automaton.specs.Util.{find_result, Standard, start_refusal};
-ghost use Rattle.ac_automaton.specs.Answers.{BeginsBy};
-ghost use Rattle.ac_automaton.specs.Finds.{finding_of, FindsIn, MaySearch, between, input_over};
-ghost use Rattle.ac_automaton.specs.Iterators.{reads_past_by};
-ghost use Rattle.ac_automaton.specs.Onward.{BeginsPast};
+ghost use Rattle.std.specs.Prelude.{◌≡◌, ◌≤◌, ◌↔◌, false, true, IsTrue, None};
+ghost use Rattle.ac_automaton.specs.Util.{Standard, start_refusal};
+ghost use Rattle.ac_automaton.specs.Answers.{BeginsFinder};
+ghost use Rattle.ac_automaton.specs.Finds.{asked, between, finding_of, FindsIn, found_by, MaySearch};
+ghost use Rattle.ac_automaton.specs.Onward.{BeginsOnward};
 
 use super::Automaton;
-use super::onward::Onward;
+use super::onward::{Core, Onward, Position};
 use super::scan::{Cursor, Scanner};
-use super::skip::{SkipBudget, ToStart};
+use super::skip::SkipBudget;
 use ac_util::error::MatchError;
 use ac_util::looks::{Looks, Tape};
-use ac_util::prefilter::{Needle, Prefilter};
-use ac_util::primitives::StateID;
 use ac_util::search::{Anchored, Match, MatchKind, Span};
 use std::marker::Model;
 
@@ -42,7 +39,7 @@ pub fn find_core<A: Automaton>(
 ) -> Option<Match>
     requires supported { start_refusal (A.seen automaton.now).built.start_kind anchored ≡ None }
     requires may { MaySearch (between start end) tape.old }
-    ensures pick { result ≡ find_result (A.seen automaton.now).built (input_over tape.old.bytes start end anchored earliest) }
+    ensures pick { result ≡ found_by (A.seen automaton.now) (asked tape.old.bytes start end anchored earliest) }
     ensures finds { FindsIn (finding_of (A.seen automaton.now) anchored earliest) (between start end)
         tape.old looks.old result tape.new looks.new }
 {
@@ -58,32 +55,30 @@ pub fn find_core<A: Automaton>(
 /// match. Contracts see what the automaton was built from, the anchoring, and the order by which the find picks.
 #[derive(Drop)]
 pub struct Finder<'a, A: Automaton> {
-    automaton: &'a A,
+    core: Core<'a, A>,
     anchored: Anchored,
-    /// Whether the first match found is the answer.
-    stops: bool,
-    start: StateID,
-    /// None in an anchored search, which skips nothing.
-    prefilter: Option<&'a Prefilter<A::Memory>>,
-    /// Kept from find to find, so that no prefilter is called often where it skips little.
-    budget: SkipBudget,
+    /// Whether a match may be picked anywhere in a span: the find isn't anchored, and no pattern is empty. Else it begins where the
+    /// span does.
+    free: bool,
+    /// Where a find stands. Its budget is kept from find to find, so that no prefilter is called often where it skips little.
+    here: Position,
 }
 
 impl<'a, A: Automaton> Model for Finder<'a, A> {
-    ghost use Rattle.std.specs.Prelude.{◌≡◌, false, true, [], Some, IfSome};
-    ghost use Rattle.ac_automaton.specs.Util.{is_leftmost, No, skip_of};
-    ghost use Rattle.ac_automaton.specs.Finds.{Finding, finding_of};
-    ghost use Rattle.ac_automaton.specs.Scans.{Skips};
+    ghost use Rattle.std.specs.Prelude.{◌≡◌, false, true, [], Some};
+    ghost use Rattle.ac_automaton.specs.Util.{is_leftmost};
+    ghost use Rattle.ac_automaton.specs.Finds.{Finding, finding_of, is_free};
+    ghost use Rattle.ac_automaton.specs.Cores.{IsSearchBy};
 
     ghost Value = { Finding };
 
-    ghost view = { λ f. finding_of (A.seen f.automaton.now) f.anchored f.stops };
+    ghost view = { λ f. finding_of (A.seen f.core.automaton.now) f.anchored f.core.stops };
 
     ghost invariant = { λ f. record {
-      starts : (A.seen f.automaton.now).stands f.anchored f.start (Some []);
-      leftmost : f.stops ≡ false → is_leftmost (A.seen f.automaton.now).built.kind ≡ true;
-      skips : IfSome f.prefilter (λ p. (f.anchored ≡ No)
-          × Skips (A.seen f.automaton.now).wants_prefilter (A.seen f.automaton.now).built (skip_of p.now));
+      starts : (A.seen f.core.automaton.now).stands f.anchored f.core.start (Some []);
+      leftmost : f.core.stops ≡ false → is_leftmost (A.seen f.core.automaton.now).built.kind ≡ true;
+      free : f.free ≡ is_free f.anchored (A.seen f.core.automaton.now).built.patterns;
+      lawful : f.free ≡ true → IsSearchBy A.seen f.core;
     } };
 }
 
@@ -98,21 +93,23 @@ impl<'a, A: Automaton> Finder<'a, A> {
         anchored: Anchored,
         earliest: bool,
     ) -> Result<Finder<'a, A>, MatchError>
-        ensures { BeginsBy (A.seen automaton.now) anchored (λ finder. finder ≡ finding_of (A.seen automaton.now) anchored earliest) result }
+        ensures { BeginsFinder (A.seen automaton.now) anchored earliest result }
     {
         let start = automaton.start_state(anchored)?;
-        let stops = earliest || matches!(automaton.match_kind(), MatchKind::Standard);
-        let prefilter = match anchored {
-            Anchored::No => automaton.prefilter(),
-            Anchored::Yes => None,
-        };
-        Ok(Finder {
+        let free = !anchored.is_anchored() && automaton.min_pattern_len() > 0;
+        let core = Core {
             automaton,
-            anchored,
-            stops,
+            commits: automaton.commits(),
             start,
-            prefilter,
-            budget: SkipBudget::new(),
+            stops: earliest || matches!(automaton.match_kind(), MatchKind::Standard),
+            prefilter: if free { automaton.prefilter() } else { None },
+        };
+        let here = core.begin(Span { start: 0, end: 0 }, SkipBudget::new());
+        Ok(Finder {
+            core,
+            anchored,
+            free,
+            here,
         })
     }
 
@@ -121,28 +118,18 @@ impl<'a, A: Automaton> Finder<'a, A> {
     pub(super) fn stops_at_match(&self) -> bool
         ensures { IsTrue result ↔ (self.now.picking.order ≡ Standard) }
     {
-        self.stops
+        self.core.stops
     }
 
-    /// Returns a walk from an offset on that reads each byte once, where a walk by these finds may be one.
+    /// Returns a walk of a span that reads each byte once, where a walk by these finds may be one.
     #[inline]
-    pub(super) fn onward(&self, at: usize) -> Option<Onward<'a, A>>
-        ensures { MatchOption result
-            (reads_past_by self.now.picking.order self.now.anchored self.now.built.patterns ≡ false)
-            (BeginsPast A.seen self.now at) }
+    pub(super) fn onward(&self, span: Span) -> Option<Onward<'a, A>>
+        ensures { BeginsOnward A.seen self.now span result }
     {
-        if self.stops || self.automaton.min_pattern_len() == 0 {
+        if self.core.stops || !self.free {
             return None;
         }
-        if self.anchored == Anchored::Yes {
-            return None;
-        }
-        let (first, needle) = match self.prefilter {
-            Some(Prefilter::Bytes(first)) => (Some(*first), None),
-            Some(Prefilter::Needle(needle)) => (None, Some(needle)),
-            None => (None, None),
-        };
-        Some(Onward::new(self.automaton, self.start, first, needle, at))
+        Some(self.core.onward(span))
     }
 
     /// Returns the match that is picked in a span of a tape's haystack, as `find_core` does, with the same conditions
@@ -154,71 +141,47 @@ impl<'a, A: Automaton> Finder<'a, A> {
         ensures finds { FindsIn self.old span tape.old looks.old result tape.new looks.new }
         ensures same { self.new ≡ self.old }
     {
-        if self.prefilter.is_some() {
-            return self.find_skipping(span, tape, looks);
-        }
         if span.start > span.end {
             return None;
         }
+        if !self.free {
+            return self.find_front(span, tape, looks);
+        }
+        self.here = self.core.begin(span, self.here.budget);
+        self.core.find_first(&mut self.here, tape, looks)
+    }
+
+    /// Returns what `find` does where each match that is picked begins where the span does. It isn't part of `find`, which so stays
+    /// short.
+    #[inline(never)]
+    fn find_front(&self, span: Span, tape: &mut Tape<'_>, looks: &mut Looks) -> Option<Match>
+        requires may { MaySearch span tape.old }
+        requires some { span.start ≤ span.end }
+        ensures finds { FindsIn self.now span tape.old looks.old result tape.new looks.new }
+    {
         let scanner = Scanner {
-            automaton: self.automaton,
+            automaton: self.core.automaton,
             anchored: self.anchored,
             stops: true,
             span,
         };
         let start = Cursor {
-            state: self.start,
+            state: self.core.start,
             at: span.start,
         };
-        scanner.find_on(self.stops, start, tape, looks)
-    }
-
-    /// Returns what `find` does. It isn't part of `find`, which so stays short where there is no prefilter.
-    #[inline(never)]
-    fn find_skipping(&mut self, span: Span, tape: &mut Tape<'_>, looks: &mut Looks) -> Option<Match>
-        requires { MaySearch span tape.old }
-        ensures finds { FindsIn self.old span tape.old looks.old result tape.new looks.new }
-        ensures same { self.new ≡ self.old }
-    {
-        if span.start > span.end {
-            return None;
-        }
-        let stops = self.stops;
-        let scanner = Scanner {
-            automaton: self.automaton,
-            anchored: self.anchored,
-            stops: true,
-            span,
-        };
-        let mut start = Cursor {
-            state: self.start,
-            at: span.start,
-        };
-        let here = &mut start;
-        match self.prefilter {
-            Some(prefilter) if span.start < span.end => match prefilter {
-                Prefilter::Bytes(first) => {
-                    scanner.read_ahead(Some(*first), here, &mut self.budget, tape, looks);
-                    scanner.find_on(stops, *here, tape, looks)
-                }
-                Prefilter::Needle(needle) => {
-                    scanner.find_needle(needle, stops, here, &mut self.budget, tape, looks)
-                }
-            },
-            _ => scanner.find_on(stops, *here, tape, looks),
-        }
+        scanner.find_front(self.core.stops, start, tape, looks)
     }
 }
 
 impl<'a, A: Automaton> Scanner<'a, A> {
     ghost use Rattle.ac_automaton.specs.Automata.{IsState};
-    ghost use Rattle.ac_automaton.specs.Finds.{FindsOn, MayBegin, MayFind, TellsAnswer};
-    ghost use Rattle.ac_automaton.specs.Scans.{scanner, SkipsToNeedle};
+    ghost use Rattle.ac_automaton.specs.Finds.{FindsOn, MayFind, TellsAnswer};
+    ghost use Rattle.ac_automaton.specs.Scans.{scanner};
 
-    /// Returns the pick of the span, by reading on from where nothing is picked but what the state there finds: until that
-    /// can't change, or up to the first match if it stops there.
+    /// Returns the pick of the span where it begins at the span's start, by reading on from match to match: until it can't change, or
+    /// up to the first match if it stops there.
     #[inline]
-    fn find_on(
+    fn find_front(
         &self,
         stops: bool,
         cursor: Cursor,
@@ -249,32 +212,5 @@ impl<'a, A: Automaton> Scanner<'a, A> {
         ensures { TellsAnswer (scanner A.seen self.now) stops cursor.now last.now result }
     {
         self.is_over(cursor) || (stops && last.is_some())
-    }
-
-    /// Returns the pick of the span where there is a single pattern: as it is found in the rest of the span where the
-    /// automaton is at its start and that pays; until then it reads on.
-    #[inline]
-    fn find_needle(
-        &self,
-        needle: &Needle<A::Memory>,
-        stops: bool,
-        cursor: &mut Cursor,
-        budget: &mut SkipBudget,
-        tape: &mut Tape<'_>,
-        looks: &mut Looks,
-    ) -> Option<Match>
-        requires reads { self.now.stops ≡ true }
-        requires needle { SkipsToNeedle (scanner A.seen self.now).scan needle.now }
-        requires begins { MayBegin (scanner A.seen self.now) stops tape.old cursor.old }
-        ensures { FindsOn (scanner A.seen self.now) stops cursor.old tape.old looks.old result tape.new looks.new }
-    {
-        if let ToStart::Stopped(dead) = self.read_to_start(cursor, budget, tape, looks) {
-            cursor.enter(dead);
-            return self.find_on(stops, *cursor, tape, looks);
-        }
-        let from = cursor.at;
-        let found = tape.find_needle(needle, from, self.span.end, looks);
-        budget.record_needle(from, &found);
-        found
     }
 }

@@ -1,23 +1,24 @@
-//! Leftmost walks that read each byte once.
+//! Where a search stands, what it gives there, and how it goes on.
 //!
-//! A leftmost match is known only once bytes after it were read. Such a walk doesn't read them again: the commit of the state
-//! where it stands says which matches lie in them, and at which state it goes on.
+//! What is given is a function of the state: where the search stops at a match that state's first one, and else what its commit says.
+//! A leftmost match is known only once bytes after it were read. A walk doesn't read them again: the commit of the state where it
+//! stands says which matches lie in them, and at which state it goes on.
 ghost use Rattle.std.specs.Prelude.{◌≡◌, ◌<◌, ◌≤◌, [], false, true, is_none, length, option_map, IfSome, Some, None};
 ghost use Rattle.ac_util.specs.Prefilters.{first_bytes_of};
-ghost use Rattle.ac_automaton.specs.Util.{No, pattern_of, usize_max};
+ghost use Rattle.ac_automaton.specs.Util.{No, pattern_of};
+ghost use Rattle.ac_automaton.specs.Scans.{SkipsTo};
 ghost use Rattle.ac_automaton.specs.Automata.{IsState};
-ghost use Rattle.ac_automaton.specs.Commits.{AreCommits, reads_on};
-ghost use Rattle.ac_automaton.specs.Finds.{between, finding_of, place_of};
-ghost use Rattle.ac_automaton.specs.Reads.{HasReadOn, MayRead, ReadsOn, hand_of, point};
-ghost use Rattle.ac_automaton.specs.Scans.{Grows};
-ghost use Rattle.ac_automaton.specs.Onward.{BeginsPast, GivesFrom, GivesOf, GivesThere, GoesOnward, IsLawful, KeepsOnward, MayFindOn, MayFindOnly, MayGive, MayGoOnward, MayTake, MayTakeFrom, MovesOnward, SkipsToFirst, SkipsToOnly, TakesKnown, TakesNext, walk_of};
+ghost use Rattle.ac_automaton.specs.Finds.{finding_of, place_of};
+ghost use Rattle.ac_automaton.specs.Reads.{hand_of};
+ghost use Rattle.ac_automaton.specs.Cores.{MayTakeFrom, SkipsToOnly, TakesKnown, end_of};
+ghost use Rattle.ac_automaton.specs.Onward.{BeginsPast};
 
 use super::Automaton;
 use super::commits::{Chains, Commits};
 use super::scan::{Cursor, Dead, Scanner};
 use super::skip::{SkipBudget, ToStart};
 use ac_util::looks::{Looks, Tape};
-use ac_util::prefilter::{FirstBytes, Needle};
+use ac_util::prefilter::{FirstBytes, Needle, Prefilter};
 use ac_util::primitives::{PatternID, StateID};
 use ac_util::search::{Anchored, Match, Span};
 
@@ -42,8 +43,21 @@ pub(super) struct Given {
     pub(super) chain: Option<usize>,
 }
 
-/// A search that reads on past its matches: its automaton with the commits, the state at which it begins, and whether it stops at
-/// a match.
+/// Where a search stands, and up to where it may read. It borrows nothing.
+#[derive(Clone, Copy)]
+pub(super) struct Position {
+    pub(super) cursor: Cursor,
+    /// The byte at the cursor where that was read, and didn't lead on.
+    pub(super) byte: Option<u8>,
+    /// What of a chain is still to be given.
+    pub(super) rest: Option<ChainRest>,
+    pub(super) budget: SkipBudget,
+    /// Up to where it may read.
+    pub(super) end: usize,
+}
+
+/// A search that goes on from match to match: its automaton with the commits, the state at which it begins, whether it stops at a
+/// match, and how it skips.
 #[derive(Drop)]
 pub(super) struct Core<'a, A: Automaton> {
     pub(super) automaton: &'a A,
@@ -51,232 +65,301 @@ pub(super) struct Core<'a, A: Automaton> {
     pub(super) start: StateID,
     /// Whether the first match found is given.
     pub(super) stops: bool,
+    pub(super) prefilter: Option<&'a Prefilter<A::Memory>>,
 }
 
 /// A walk that reads each byte once.
 #[derive(Drop)]
 pub(super) struct Onward<'a, A: Automaton> {
-    core: Core<'a, A>,
-    cursor: Cursor,
-    /// The byte at the cursor where that was read, and didn't lead on.
-    byte: Option<u8>,
-    rest: Option<ChainRest>,
-    /// The first bytes to which it may skip.
-    first: Option<FirstBytes>,
-    /// Its only pattern, to which it may skip.
-    needle: Option<&'a Needle<A::Memory>>,
-    budget: SkipBudget,
+    pub(super) core: Core<'a, A>,
+    pub(super) here: Position,
 }
 
-impl<'a, A: Automaton> Onward<'a, A> {
-    /// Returns a walk that begins at an offset, at this start. It may skip to some first bytes, or to its only pattern.
+impl<'a, A: Automaton> Core<'a, A> {
+    ghost use Rattle.ac_automaton.specs.Cores.{begun_by, FitsBefore, GivesHere, GivesIn, Goes, IsCore, IsSearchBy, Leads, MayGo, MayGoOn, Picks, scan_by, scanner_to, spot, Stops};
+
+    /// Returns a walk of a span.
     #[inline]
-    pub(super) fn new(
-        automaton: &'a A,
-        start: StateID,
-        first: Option<FirstBytes>,
-        needle: Option<&'a Needle<A::Memory>>,
-        at: usize,
-    ) -> Onward<'a, A>
-        requires needle { IfSome needle (λ n. SkipsToOnly (A.seen automaton.now) n.now) }
-        requires skips { IfSome first (λ f. SkipsToFirst (A.seen automaton.now) (first_bytes_of f)) }
-        requires on { reads_on (A.seen automaton.now).built ≡ true }
-        requires starts { (A.seen automaton.now).stands No start (Some []) }
-        ensures begins { BeginsPast A.seen (finding_of (A.seen automaton.now) No false) at result }
+    pub(super) fn onward(&self, span: Span) -> Onward<'a, A>
+        requires lawful { IsSearchBy A.seen self.now }
+        requires past { self.now.stops ≡ false }
+        ensures { BeginsPast A.seen (finding_of (A.seen self.now.automaton.now) No false) span result }
     {
         Onward {
             core: Core {
-                automaton,
-                commits: automaton.commits(),
-                start,
-                stops: false,
+                automaton: self.automaton,
+                commits: self.commits,
+                start: self.start,
+                stops: self.stops,
+                prefilter: self.prefilter,
             },
-            cursor: Cursor { state: start, at },
-            byte: None,
-            rest: None,
-            first,
-            needle,
-            budget: SkipBudget::new(),
+            here: self.begin(span, SkipBudget::new()),
         }
     }
 
-    /// Returns the next match in a span of a tape, and moves on. The span begins where the match before ended, or past its own end
-    /// after the last match.
+    /// Returns where a search stands that begins where a span does, with a budget for skipping.
+    #[inline]
+    pub(super) fn begin(&self, span: Span, budget: SkipBudget) -> Position
+        ensures { result ≡ begun_by self.now span budget }
+    {
+        Position {
+            cursor: Cursor {
+                state: self.start,
+                at: span.start,
+            },
+            byte: None,
+            rest: None,
+            budget,
+            end: span.end,
+        }
+    }
+
+    /// Returns the next match up to an end, and moves on: the next one of the chain, if one is left, or what is found.
     pub(super) fn next(
-        &mut self,
-        span: Span,
+        &self,
+        here: &mut Position,
         tape: &mut Tape<'_>,
         looks: &mut Looks,
     ) -> Option<Match>
-        requires may { MayGoOnward A.seen self.old span tape.old looks.old }
-        ensures grows { Grows looks.old looks.new }
-        ensures moves { MovesOnward self.old looks.old self.new looks.new }
-        ensures same { KeepsOnward self.old self.new }
-        ensures bytes { tape.new.bytes ≡ tape.old.bytes }
-        ensures gives { GoesOnward A.seen self.old span tape.old looks.old result self.new tape.new looks.new }
+        requires lawful { IsSearchBy A.seen self.now }
+        requires past { self.now.stops ≡ false }
+        requires may { MayGo A.seen self.now (spot here.old tape.old looks.old) }
+        ensures { Goes A.seen self.now (spot here.old tape.old looks.old) result (spot here.new tape.new looks.new) }
     {
-        if let Some(found) = self.take_known() {
+        let chains = self.commits.chains();
+        if let Some(found) = take_next(self.automaton, chains, &mut here.rest) {
             return Some(found);
         }
-        self.find_on(span.end, tape, looks)
+        if !self.try_byte(here, tape, looks) {
+            return self.give(here);
+        }
+        self.find_on(false, here, tape, looks)
     }
 
-    /// Returns the next match up to an end, where none of a chain is left, and moves on.
+    /// Returns the match of a find that begins, as `find_on` does.
     #[inline]
-    fn find_on(&mut self, end: usize, tape: &mut Tape<'_>, looks: &mut Looks) -> Option<Match>
-        requires lawful { IsLawful A.seen self.old }
-        requires may { MayFindOn A.seen self.old tape.old end looks.old }
-        ensures grows { Grows looks.old looks.new }
-        ensures moves { MovesOnward self.old looks.old self.new looks.new }
-        ensures same { KeepsOnward self.old self.new }
-        ensures bytes { tape.new.bytes ≡ tape.old.bytes }
-        ensures gives { GivesFrom A.seen self.old tape.old end looks.old result self.new tape.new looks.new }
+    pub(super) fn find_first(
+        &self,
+        here: &mut Position,
+        tape: &mut Tape<'_>,
+        looks: &mut Looks,
+    ) -> Option<Match>
+        requires lawful { IsSearchBy A.seen self.now }
+        requires empty { here.old.byte ≡ None }
+        requires fits { FitsBefore (scan_by A.seen self.now) here.old.cursor }
+        requires may { MayGoOn A.seen self.now (spot here.old tape.old looks.old) }
+        ensures { Picks A.seen self.now (spot here.old tape.old looks.old) result (spot here.new tape.new looks.new) }
     {
-        if !self.try_byte(end, tape, looks) {
-            return self.give();
+        self.find_on(self.stops, here, tape, looks)
+    }
+
+    /// Returns the next match up to an end, where none of a chain is left and nothing is in hand, and moves on. Its
+    /// caller says whether it stops at a match.
+    // Always inlined, so that a walk has the loop alone that reads past matches.
+    #[inline(always)]
+    fn find_on(
+        &self,
+        stops: bool,
+        here: &mut Position,
+        tape: &mut Tape<'_>,
+        looks: &mut Looks,
+    ) -> Option<Match>
+        requires stops { stops ≡ self.now.stops }
+        requires lawful { IsSearchBy A.seen self.now }
+        requires empty { here.old.byte ≡ None }
+        requires fits { FitsBefore (scan_by A.seen self.now) here.old.cursor }
+        requires may { MayGoOn A.seen self.now (spot here.old tape.old looks.old) }
+        ensures { Picks A.seen self.now (spot here.old tape.old looks.old) result (spot here.new tape.new looks.new) }
+    {
+        if let Some(Prefilter::Needle(needle)) = self.prefilter {
+            return self.give_needle(needle, here, tape, looks);
         }
-        match self.needle {
-            Some(needle) => self.give_needle(needle, end, tape, looks),
-            None => {
-                self.read_on(end, tape, looks);
-                self.give()
-            }
+        self.read_on(stops, here, tape, looks);
+        self.give(here)
+    }
+
+    /// Reads on as far as it reads, with nothing in hand at first. It skips ahead to the first bytes where the prefilter has some and
+    /// that pays.
+    #[inline(always)]
+    fn read_on(&self, stops: bool, here: &mut Position, tape: &mut Tape<'_>, looks: &mut Looks)
+        requires stops { stops ≡ self.now.stops }
+        requires lawful { IsSearchBy A.seen self.now }
+        requires empty { here.old.byte ≡ None }
+        requires may { MayGoOn A.seen self.now (spot here.old tape.old looks.old) }
+        ensures reads { Stops A.seen self.now (spot here.old tape.old looks.old) (spot here.new tape.new looks.new) }
+    {
+        if stops {
+            self.read_to_match(here, tape, looks);
+        } else {
+            self.read_past(here, tape, looks);
         }
     }
 
-    /// Returns the next match of the chain, if one is left.
+    /// Reads on where it stops at a match.
     #[inline]
-    fn take_known(&mut self) -> Option<Match>
-        requires may { MayTake A.seen self.old }
-        ensures same { self.new ≡ record self.old { rest = self.new.rest } }
-        ensures takes { TakesNext A.seen self.old result self.new.rest }
+    fn read_to_match(&self, here: &mut Position, tape: &mut Tape<'_>, looks: &mut Looks)
+        requires lawful { IsSearchBy A.seen self.now }
+        requires stops { self.now.stops ≡ true }
+        requires empty { here.old.byte ≡ None }
+        requires may { MayGoOn A.seen self.now (spot here.old tape.old looks.old) }
+        ensures reads { Stops A.seen self.now (spot here.old tape.old looks.old) (spot here.new tape.new looks.new) }
     {
-        take_next(
-            self.core.automaton,
-            self.core.commits.chains(),
-            &mut self.rest,
-        )
+        let scanner = self.scanner(true, here.end);
+        let (cursor, budget) = (&mut here.cursor, &mut here.budget);
+        let dead = scanner.read_to_match_or_skip(self.first_bytes(), cursor, budget, tape, looks);
+        here.byte = byte_of(dead);
+    }
+
+    /// Reads on where it stops at no match.
+    #[inline]
+    fn read_past(&self, here: &mut Position, tape: &mut Tape<'_>, looks: &mut Looks)
+        requires lawful { IsSearchBy A.seen self.now }
+        requires past { self.now.stops ≡ false }
+        requires empty { here.old.byte ≡ None }
+        requires may { MayGoOn A.seen self.now (spot here.old tape.old looks.old) }
+        ensures reads { Stops A.seen self.now (spot here.old tape.old looks.old) (spot here.new tape.new looks.new) }
+    {
+        let scanner = self.scanner(false, here.end);
+        let (cursor, budget) = (&mut here.cursor, &mut here.budget);
+        let dead = scanner.read_past_or_skip(self.first_bytes(), cursor, budget, tape, looks);
+        here.byte = byte_of(dead);
+    }
+
+    /// Returns the first bytes to which it may skip, if it may to some.
+    #[inline]
+    fn first_bytes(&self) -> Option<FirstBytes>
+        requires lawful { IsSearchBy A.seen self.now }
+        ensures { IfSome result (λ first. SkipsTo (scan_by A.seen self.now) (first_bytes_of first)) }
+    {
+        match self.prefilter {
+            Some(Prefilter::Bytes(first)) => Some(*first),
+            _ => None,
+        }
     }
 
     /// Gives the next match of the only pattern, and goes on after it. Nothing is in hand.
     #[inline(never)]
     fn give_needle(
-        &mut self,
+        &self,
         needle: &Needle<A::Memory>,
-        end: usize,
+        here: &mut Position,
         tape: &mut Tape<'_>,
         looks: &mut Looks,
     ) -> Option<Match>
-        requires lawful { IsLawful A.seen self.old }
-        requires needle { SkipsToOnly (A.seen self.old.core.automaton.now) needle.now }
-        requires empty { self.old.byte ≡ None }
-        requires may { MayFindOn A.seen self.old tape.old end looks.old }
-        ensures grows { Grows looks.old looks.new }
-        ensures moves { MovesOnward self.old looks.old self.new looks.new }
-        ensures same { KeepsOnward self.old self.new }
-        ensures bytes { tape.new.bytes ≡ tape.old.bytes }
-        ensures gives { GivesFrom A.seen self.old tape.old end looks.old result self.new tape.new looks.new }
+        requires lawful { IsSearchBy A.seen self.now }
+        requires needle { SkipsToOnly (A.seen self.now.automaton.now) needle.now }
+        requires empty { here.old.byte ≡ None }
+        requires fits { FitsBefore (scan_by A.seen self.now) here.old.cursor }
+        requires may { MayGoOn A.seen self.now (spot here.old tape.old looks.old) }
+        ensures { Picks A.seen self.now (spot here.old tape.old looks.old) result (spot here.new tape.new looks.new) }
     {
-        let scanner = self.core.scanner(false, end);
-        match scanner.read_to_start(&mut self.cursor, &mut self.budget, tape, looks) {
-            ToStart::There => self.find_needle(needle, end, tape, looks),
-            ToStart::Stopped(dead) => {
-                self.byte = byte_of(dead);
-                self.give()
-            }
+        let scanner = self.scanner(self.stops, here.end);
+        let (cursor, budget) = (&mut here.cursor, &mut here.budget);
+        if let ToStart::Stopped(dead) = scanner.read_to_start(cursor, budget, tape, looks) {
+            here.byte = byte_of(dead);
+            return self.give(here);
         }
-    }
-
-    /// Gives the next match of the only pattern, as the prefilter finds it, and goes on after it.
-    #[inline]
-    fn find_needle(
-        &mut self,
-        needle: &Needle<A::Memory>,
-        end: usize,
-        tape: &Tape<'_>,
-        looks: &mut Looks,
-    ) -> Option<Match>
-        requires lawful { IsLawful A.seen self.old }
-        requires finds { MayFindOnly A.seen self.old end needle.now }
-        requires may { MayRead (walk_of A.seen self.old) end (point self.old.cursor self.old.byte tape.now looks.old) }
-        ensures grows { Grows looks.old looks.new }
-        ensures moves { MovesOnward self.old looks.old self.new looks.new }
-        ensures same { KeepsOnward self.old self.new }
-        ensures gives { GivesFrom A.seen self.old tape.now end looks.old result self.new tape.now looks.new }
-    {
-        let from = self.cursor.at;
-        let found = tape.find_needle(needle, from, end, looks);
-        self.budget.record_needle(from, &found);
-        self.rest = None;
-        self.cursor.at = match &found {
-            Some(found) => found.end(),
-            None => end,
-        };
+        let from = here.cursor.at;
+        let found = tape.find_needle(needle, from, here.end, looks);
+        here.budget.record_needle(from, &found);
+        here.rest = None;
+        here.cursor.at = end_of(&found, here.end);
         found
     }
 
     /// Tries the byte in hand, if there is one. Returns whether nothing is in hand then: where the byte leads to the dead state it
     /// stays.
     #[inline]
-    fn try_byte(&mut self, end: usize, tape: &Tape<'_>, looks: &mut Looks) -> bool
-        requires may { MayRead (walk_of A.seen self.old) end (point self.old.cursor self.old.byte tape.now looks.old) }
-        ensures same { KeepsOnward self.old self.new }
-        ensures empty { result ≡ is_none self.new.byte }
-        ensures reads { ReadsOn (walk_of A.seen self.old) end (point self.old.cursor self.old.byte tape.now looks.old)
-            (point self.new.cursor self.new.byte tape.now looks.new) }
+    fn try_byte(&self, here: &mut Position, tape: &Tape<'_>, looks: &mut Looks) -> bool
+        requires may { MayGoOn A.seen self.now (spot here.old tape.now looks.old) }
+        ensures empty { result ≡ is_none here.new.byte }
+        ensures reads { Leads A.seen self.now (spot here.old tape.now looks.old) (spot here.new tape.now looks.new) }
     {
-        let Some(byte) = self.byte else {
+        let Some(byte) = here.byte else {
             return true;
         };
-        let state = self.cursor.state;
-        let next = self
-            .core
-            .automaton
-            .next_state(Anchored::No, state, byte, looks);
-        if self.core.automaton.is_dead(next) {
+        let state = here.cursor.state;
+        let next = self.automaton.next_state(Anchored::No, state, byte, looks);
+        if self.automaton.is_dead(next) {
             return false;
         }
-        self.cursor = Cursor {
+        here.cursor = Cursor {
             state: next,
-            at: self.cursor.at + 1,
+            at: here.cursor.at + 1,
         };
-        self.byte = None;
+        here.byte = None;
         true
     }
 
-    /// Reads on as far as it reads, with nothing in hand at first. It skips ahead to the first bytes where some are given and
-    /// that pays.
+    /// Gives the match that is picked where the search stands, and goes on from there; or none where nothing is picked.
     #[inline]
-    fn read_on(&mut self, end: usize, tape: &mut Tape<'_>, looks: &mut Looks)
-        requires skips { IfSome self.old.first (λ f. SkipsToFirst (A.seen self.old.core.automaton.now) (first_bytes_of f)) }
-        requires empty { self.old.byte ≡ None }
-        requires may { MayRead (walk_of A.seen self.old) end (point self.old.cursor self.old.byte tape.old looks.old) }
-        ensures same { KeepsOnward self.old self.new }
-        ensures reads { HasReadOn (walk_of A.seen self.old) end (point self.old.cursor self.old.byte tape.old looks.old)
-            (point self.new.cursor self.new.byte tape.new looks.new) }
+    fn give(&self, here: &mut Position) -> Option<Match>
+        requires lawful { IsSearchBy A.seen self.now }
+        requires fits { FitsBefore (scan_by A.seen self.now) here.old.cursor }
+        ensures { GivesHere A.seen self.now here.old result here.new }
     {
-        let scanner = self.core.scanner(false, end);
-        let (cursor, budget) = (&mut self.cursor, &mut self.budget);
-        let dead = scanner.read_past_or_skip(self.first, cursor, budget, tape, looks);
-        self.byte = byte_of(dead);
-    }
-
-    /// Gives the match that is picked where the walk stands, and goes on from there; or none where nothing is picked.
-    fn give(&mut self) -> Option<Match>
-        requires may { MayGive A.seen self.old }
-        ensures there { self.new.cursor.at ≡ self.old.cursor.at }
-        ensures hand { self.new.byte ≡ self.old.byte }
-        ensures same { KeepsOnward self.old self.new }
-        ensures gives { GivesThere A.seen self.old result self.new }
-    {
-        let Some(given) = self.core.given_at(self.cursor.state) else {
+        let Some(given) = self.given_at(here.cursor.state) else {
             return None;
         };
-        let end = self.cursor.at - given.rest;
-        let found = match_ending(self.core.automaton, given.pattern, end);
-        self.cursor.state = given.next;
-        self.rest = chain_rest(given.chain, end);
-        Some(found)
+        let end = here.cursor.at - given.rest;
+        here.cursor.state = given.next;
+        here.rest = chain_rest(given.chain, end);
+        Some(match_ending(self.automaton, given.pattern, end))
+    }
+
+    /// Returns a scanner that reads up to an end, and stops at a match or not.
+    // A caller says which, so that only one of the loops that read becomes a part of it.
+    #[inline]
+    pub(super) fn scanner(&self, stops: bool, end: usize) -> Scanner<'a, A>
+        ensures { result ≡ scanner_to self.now stops end }
+    {
+        Scanner {
+            automaton: self.automaton,
+            anchored: Anchored::No,
+            stops,
+            span: Span { start: 0, end },
+        }
+    }
+
+    /// Returns what is given that leaves a state, or `None` where nothing is picked in its string, or if the search stops at a
+    /// match where the state has none.
+    #[inline]
+    pub(super) fn given_at(&self, state: StateID) -> Option<Given>
+        requires core { IsCore (A.seen self.now.automaton.now) self.now.commits.now self.now.start self.now.stops }
+        requires state { IsState ((A.seen self.now.automaton.now).stands No) state }
+        ensures { GivesIn A.seen self.now state result }
+    {
+        if self.automaton.is_match(state) {
+            return Some(Given {
+                pattern: self.automaton.match_pattern(state, 0),
+                rest: 0,
+                next: self.start,
+                chain: None,
+            });
+        }
+        if self.stops {
+            return None;
+        }
+        let Some(commit) = self.commits.of(state) else {
+            return None;
+        };
+        Some(Given {
+            pattern: commit.pattern,
+            rest: commit.rest,
+            next: commit.next,
+            chain: Some(commit.chain),
+        })
+    }
+}
+
+/// Returns where a match ends, or else an end.
+#[inline]
+fn end_of(found: &Option<Match>, end: usize) -> usize
+    ensures { result ≡ end_of end found.now }
+{
+    match found {
+        Some(found) => found.end(),
+        None => end,
     }
 }
 
@@ -317,59 +400,6 @@ pub(super) fn match_ending<A: Automaton>(automaton: &A, pattern: PatternID, end:
             end,
         },
     )
-}
-
-impl<'a, A: Automaton> Core<'a, A> {
-    ghost use Rattle.ac_automaton.specs.Onward.{GivesAt, IsCore};
-
-    /// Returns a scanner that reads up to an end, and stops at a match or not.
-    // A caller says which, so that only one of the loops that read becomes a part of it.
-    #[inline]
-    pub(super) fn scanner(&self, stops: bool, end: usize) -> Scanner<'a, A>
-        ensures { result ≡ record {
-          automaton = self.now.automaton;
-          anchored = No;
-          stops = stops;
-          span = between 0 end;
-        } }
-    {
-        Scanner {
-            automaton: self.automaton,
-            anchored: Anchored::No,
-            stops,
-            span: Span { start: 0, end },
-        }
-    }
-
-    /// Returns what is given that leaves a state, or `None` where nothing is picked in its string, or if the search stops at a
-    /// match where the state has none.
-    #[inline]
-    pub(super) fn given_at(&self, state: StateID) -> Option<Given>
-        requires core { IsCore (A.seen self.now.automaton.now) self.now.commits.now self.now.start self.now.stops }
-        requires state { IsState ((A.seen self.now.automaton.now).stands No) state }
-        ensures { GivesAt (A.seen self.now.automaton.now) self.now.commits.now.chains self.now.start self.now.stops state result }
-    {
-        if self.automaton.is_match(state) {
-            return Some(Given {
-                pattern: self.automaton.match_pattern(state, 0),
-                rest: 0,
-                next: self.start,
-                chain: None,
-            });
-        }
-        if self.stops {
-            return None;
-        }
-        let Some(commit) = self.commits.of(state) else {
-            return None;
-        };
-        Some(Given {
-            pattern: commit.pattern,
-            rest: commit.rest,
-            next: commit.next,
-            chain: Some(commit.chain),
-        })
-    }
 }
 
 /// Returns the next match of a chain, if one is left, and what is to be given after it.

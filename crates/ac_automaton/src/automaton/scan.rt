@@ -6,7 +6,7 @@ ghost use Rattle.std.specs.Prelude.{◌≡◌, ◌<◌, ◌↔◌, false, true, 
 ghost use Rattle.ac_automaton.specs.Automata.{IsState};
 ghost use Rattle.ac_automaton.specs.Finds.{FindsAt, StandsIn};
 ghost use Rattle.ac_automaton.specs.Overlaps.{is_due};
-ghost use Rattle.ac_automaton.specs.Reads.{MayRead, ReadsToStop, StopsAt, Tries, entered, hand_of, point};
+ghost use Rattle.ac_automaton.specs.Reads.{MayScan, Scans, StopsAt, TriesAt, at, entered};
 ghost use Rattle.ac_automaton.specs.Scans.{TellsOver, scanner, work_of};
 
 use super::Automaton;
@@ -73,10 +73,9 @@ impl<'a, A: Automaton> Scanner<'a, A> {
         looks: &mut Looks,
     ) -> (u8, StateID)
         requires before { cursor.at < self.now.span.end }
-        requires may { MayRead (scanner A.seen self.now).scan self.now.span.end (point cursor None tape.old looks.old) }
+        requires may { MayScan A.seen self.now (at cursor tape.old looks.old) }
         ensures bytes { tape.new.bytes ≡ tape.old.bytes }
-        ensures tries { Tries (scanner A.seen self.now).scan (point cursor None tape.old looks.old) result.0 result.1
-            (work_of tape.new looks.new) }
+        ensures tries { TriesAt A.seen self.now (at cursor tape.old looks.old) result (work_of tape.new looks.new) }
     {
         let byte = tape.read(cursor.at, looks);
         let next = self
@@ -95,9 +94,8 @@ impl<'a, A: Automaton> Scanner<'a, A> {
         tape: &mut Tape<'_>,
         looks: &mut Looks,
     ) -> Option<Dead>
-        requires may { MayRead (scanner A.seen self.now).scan self.now.span.end (point cursor.old None tape.old looks.old) }
-        ensures { ReadsToStop (scanner A.seen self.now).scan self.now.span.end (point cursor.old None tape.old looks.old)
-            result (point cursor.new (hand_of result) tape.new looks.new) }
+        requires may { MayScan A.seen self.now (at cursor.old tape.old looks.old) }
+        ensures { Scans A.seen self.now (at cursor.old tape.old looks.old) result (at cursor.new tape.new looks.new) }
     {
         if self.stops {
             self.read_to_match(cursor, tape, looks)
@@ -115,9 +113,8 @@ impl<'a, A: Automaton> Scanner<'a, A> {
         looks: &mut Looks,
     ) -> Option<Dead>
         requires stops { self.now.stops ≡ true }
-        requires may { MayRead (scanner A.seen self.now).scan self.now.span.end (point cursor.old None tape.old looks.old) }
-        ensures { ReadsToStop (scanner A.seen self.now).scan self.now.span.end (point cursor.old None tape.old looks.old)
-            result (point cursor.new (hand_of result) tape.new looks.new) }
+        requires may { MayScan A.seen self.now (at cursor.old tape.old looks.old) }
+        ensures { Scans A.seen self.now (at cursor.old tape.old looks.old) result (at cursor.new tape.new looks.new) }
     {
         let (mut state, mut at) = (cursor.state, cursor.at);
         let end = self.span.end;
@@ -130,7 +127,7 @@ impl<'a, A: Automaton> Scanner<'a, A> {
                 state: next,
                 at: at + 1,
             };
-            if there.at >= end || self.automaton.is_match_or_dead(next) {
+            if self.automaton.is_match_or_dead(next) || there.at >= end {
                 if self.automaton.is_dead(next) {
                     *cursor = Cursor { state, at };
                     return Some(Dead { byte, next: there });
@@ -152,9 +149,8 @@ impl<'a, A: Automaton> Scanner<'a, A> {
         looks: &mut Looks,
     ) -> Option<Dead>
         requires past { self.now.stops ≡ false }
-        requires may { MayRead (scanner A.seen self.now).scan self.now.span.end (point cursor.old None tape.old looks.old) }
-        ensures { ReadsToStop (scanner A.seen self.now).scan self.now.span.end (point cursor.old None tape.old looks.old)
-            result (point cursor.new (hand_of result) tape.new looks.new) }
+        requires may { MayScan A.seen self.now (at cursor.old tape.old looks.old) }
+        ensures { Scans A.seen self.now (at cursor.old tape.old looks.old) result (at cursor.new tape.new looks.new) }
     {
         let (mut state, mut at) = (cursor.state, cursor.at);
         let end = self.span.end;

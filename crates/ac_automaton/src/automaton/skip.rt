@@ -5,7 +5,7 @@
 ghost use Rattle.std.specs.Prelude.{◌≤◌, ◌<◌, ◌≡◌, false, true, IfSome, None};
 ghost use Rattle.ac_util.specs.Prefilters.{first_bytes_of};
 ghost use Rattle.ac_automaton.specs.Automata.{IsState};
-ghost use Rattle.ac_automaton.specs.Reads.{IsAtStart, MayRead, ReadsFurther, ReadsToStart, ReadsToStop, hand_at, hand_of, point};
+ghost use Rattle.ac_automaton.specs.Reads.{IsAtStart, MayScan, Moves, Scans, Seeks, at};
 ghost use Rattle.ac_automaton.specs.Scans.{Advances, MayAdvance, scanner, SkipsTo};
 
 use super::Automaton;
@@ -124,7 +124,8 @@ pub(super) enum ToStart {
 impl<'a, A: Automaton> Scanner<'a, A> {
     /// Reads on by a byte at least, up to a state that has matches or is dead, or up to the end of the span. It skips ahead
     /// to the first bytes where some are given and that pays.
-    #[inline]
+    // Always inlined: the anchoring is known in its caller, and so the engine's step is inlined too.
+    #[inline(always)]
     pub(super) fn read_ahead(
         &self,
         first: Option<FirstBytes>,
@@ -143,8 +144,9 @@ impl<'a, A: Automaton> Scanner<'a, A> {
     }
 
     /// Reads on as `read` does that stops at a match. It skips ahead to the first bytes where some are given and that pays.
-    #[inline]
-    fn read_to_match_or_skip(
+    // Always inlined, as `read_ahead` is.
+    #[inline(always)]
+    pub(super) fn read_to_match_or_skip(
         &self,
         first: Option<FirstBytes>,
         cursor: &mut Cursor,
@@ -154,9 +156,8 @@ impl<'a, A: Automaton> Scanner<'a, A> {
     ) -> Option<Dead>
         requires stops { self.now.stops ≡ true }
         requires skips { IfSome first (λ f. SkipsTo (scanner A.seen self.now).scan (first_bytes_of f)) }
-        requires may { MayRead (scanner A.seen self.now).scan self.now.span.end (point cursor.old None tape.old looks.old) }
-        ensures { ReadsToStop (scanner A.seen self.now).scan self.now.span.end (point cursor.old None tape.old looks.old)
-            result (point cursor.new (hand_of result) tape.new looks.new) }
+        requires may { MayScan A.seen self.now (at cursor.old tape.old looks.old) }
+        ensures { Scans A.seen self.now (at cursor.old tape.old looks.old) result (at cursor.new tape.new looks.new) }
     {
         match first {
             Some(first) => self.read_skipping(first, cursor, budget, tape, looks),
@@ -176,9 +177,8 @@ impl<'a, A: Automaton> Scanner<'a, A> {
     ) -> Option<Dead>
         requires past { self.now.stops ≡ false }
         requires skips { IfSome first (λ f. SkipsTo (scanner A.seen self.now).scan (first_bytes_of f)) }
-        requires may { MayRead (scanner A.seen self.now).scan self.now.span.end (point cursor.old None tape.old looks.old) }
-        ensures { ReadsToStop (scanner A.seen self.now).scan self.now.span.end (point cursor.old None tape.old looks.old)
-            result (point cursor.new (hand_of result) tape.new looks.new) }
+        requires may { MayScan A.seen self.now (at cursor.old tape.old looks.old) }
+        ensures { Scans A.seen self.now (at cursor.old tape.old looks.old) result (at cursor.new tape.new looks.new) }
     {
         match first {
             Some(first) => self.read_skipping(first, cursor, budget, tape, looks),
@@ -197,9 +197,8 @@ impl<'a, A: Automaton> Scanner<'a, A> {
         looks: &mut Looks,
     ) -> Option<Dead>
         requires skips { SkipsTo (scanner A.seen self.now).scan (first_bytes_of first) }
-        requires may { MayRead (scanner A.seen self.now).scan self.now.span.end (point cursor.old None tape.old looks.old) }
-        ensures { ReadsToStop (scanner A.seen self.now).scan self.now.span.end (point cursor.old None tape.old looks.old)
-            result (point cursor.new (hand_of result) tape.new looks.new) }
+        requires may { MayScan A.seen self.now (at cursor.old tape.old looks.old) }
+        ensures { Scans A.seen self.now (at cursor.old tape.old looks.old) result (at cursor.new tape.new looks.new) }
     {
         // A copy, which stays in registers.
         let mut copied = *cursor;
@@ -227,10 +226,9 @@ impl<'a, A: Automaton> Scanner<'a, A> {
         looks: &mut Looks,
     ) -> Option<Dead>
         requires skips { SkipsTo (scanner A.seen self.now).scan (first_bytes_of first) }
-        requires may { MayRead (scanner A.seen self.now).scan self.now.span.end (point cursor.old None tape.old looks.old) }
+        requires may { MayScan A.seen self.now (at cursor.old tape.old looks.old) }
         requires before { cursor.old.at < self.now.span.end }
-        ensures { ReadsFurther (scanner A.seen self.now).scan self.now.span.end (point cursor.old None tape.old looks.old)
-            result (point cursor.new (hand_of result) tape.new looks.new) }
+        ensures { Moves A.seen self.now (at cursor.old tape.old looks.old) result (at cursor.new tape.new looks.new) }
     {
         if self.is_to_skip(cursor.state, budget) {
             self.skip(first, cursor, budget, tape, looks)
@@ -259,11 +257,10 @@ impl<'a, A: Automaton> Scanner<'a, A> {
         looks: &mut Looks,
     ) -> Option<Dead>
         requires skips { SkipsTo (scanner A.seen self.now).scan (first_bytes_of first) }
-        requires may { MayRead (scanner A.seen self.now).scan self.now.span.end (point cursor.old None tape.old looks.old) }
+        requires may { MayScan A.seen self.now (at cursor.old tape.old looks.old) }
         requires before { cursor.old.at < self.now.span.end }
         requires at_start { IsAtStart (scanner A.seen self.now).scan cursor.old.state }
-        ensures { ReadsFurther (scanner A.seen self.now).scan self.now.span.end (point cursor.old None tape.old looks.old)
-            result (point cursor.new (hand_of result) tape.new looks.new) }
+        ensures { Moves A.seen self.now (at cursor.old tape.old looks.old) result (at cursor.new tape.new looks.new) }
     {
         let from = cursor.at;
         let Some(next) = tape.skip_to(first, from, self.span.end, looks) else {
@@ -294,10 +291,9 @@ impl<'a, A: Automaton> Scanner<'a, A> {
         tape: &mut Tape<'_>,
         looks: &mut Looks,
     ) -> Option<Dead>
-        requires may { MayRead (scanner A.seen self.now).scan self.now.span.end (point cursor.old None tape.old looks.old) }
+        requires may { MayScan A.seen self.now (at cursor.old tape.old looks.old) }
         requires before { cursor.old.at < self.now.span.end }
-        ensures { ReadsFurther (scanner A.seen self.now).scan self.now.span.end (point cursor.old None tape.old looks.old)
-            result (point cursor.new (hand_of result) tape.new looks.new) }
+        ensures { Moves A.seen self.now (at cursor.old tape.old looks.old) result (at cursor.new tape.new looks.new) }
     {
         let from = cursor.at;
         let scanner = Scanner {
@@ -322,9 +318,8 @@ impl<'a, A: Automaton> Scanner<'a, A> {
         tape: &mut Tape<'_>,
         looks: &mut Looks,
     ) -> ToStart
-        requires may { MayRead (scanner A.seen self.now).scan self.now.span.end (point cursor.old None tape.old looks.old) }
-        ensures { ReadsToStart (scanner A.seen self.now).scan self.now.span.end (point cursor.old None tape.old looks.old)
-            result (point cursor.new (hand_at result) tape.new looks.new) }
+        requires may { MayScan A.seen self.now (at cursor.old tape.old looks.old) }
+        ensures { Seeks A.seen self.now (at cursor.old tape.old looks.old) result (at cursor.new tape.new looks.new) }
     {
         while cursor.at < self.span.end {
             if self.is_to_skip(cursor.state, budget) {

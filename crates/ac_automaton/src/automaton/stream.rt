@@ -4,7 +4,6 @@ ghost use Rattle.ac_automaton.specs.Util.{is_leftmost, IsNear, No, Reads, Standa
 ghost use Rattle.ac_automaton.specs.Answers.{BeginsStream};
 ghost use Rattle.ac_automaton.specs.Automata.{IsLiveState, IsState};
 ghost use Rattle.ac_automaton.specs.Commits.{AreCommits, reads_on};
-ghost use Rattle.ac_automaton.specs.Scans.{scan_of};
 ghost use Rattle.ac_automaton.specs.declared.automaton.stream_settled.Phase.TheVariants.{Ended, Failed, Open};
 ghost use Rattle.ac_automaton.specs.Streams.{Fills, HasGivenSettled, GivesLast, GivesRead, GivesSettled, ReadsThrough, StreamsOn, kept_len, initial_stream};
 
@@ -94,7 +93,7 @@ impl<'a, A: Automaton, Z: Allocator> StreamFinder<'a, A, Z> {
     /// `UnsupportedEmpty` where some pattern is empty; else `StreamError::Memory` where the memory for the buffer is
     /// refused.
     pub fn new(automaton: &'a A, alloc: Z) -> Result<StreamFinder<'a, A, Z>, StreamError>
-        ensures { BeginsStream (A.seen automaton.now).built (λ finder. finder ≡ initial_stream (A.seen automaton.now).built) result }
+        ensures { let b = (A.seen automaton.now).built in BeginsStream b (λ f. f ≡ initial_stream b) result }
     {
         let start = automaton.start_state(Anchored::No)?;
         if automaton.min_pattern_len() == 0 {
@@ -110,6 +109,7 @@ impl<'a, A: Automaton, Z: Allocator> StreamFinder<'a, A, Z> {
                 commits: automaton.commits(),
                 start,
                 stops,
+                prefilter: None,
             },
             reserve: most_kept(stops, longest),
             buffer,
@@ -336,18 +336,18 @@ fn read_after<R: Source>(reader: &mut R, buffer: &mut [u8], filled: usize) -> io
     requires inside { filled ≤ length buffer.old }
     ensures long { length buffer.new ≡ length buffer.old }
     ensures keeps { take filled buffer.new ≡ take filled buffer.old }
-    ensures reads { Reads R.empty_means_end (R.told reader.old) (R.told reader.new) result (drop filled buffer.new) }
+    ensures by { Reads R.empty_means_end (R.told reader.old) (R.told reader.new) result (drop filled buffer.new) }
 {
     reader.read_some(&mut buffer[filled..])
 }
 
 impl<'a, A: Automaton> Core<'a, A> {
-    ghost use Rattle.ac_automaton.specs.Onward.{IsCore};
+    ghost use Rattle.ac_automaton.specs.Cores.{IsCore, scan_by};
 
     /// Reads on in some bytes up to their end, or as far as `Scanner::read` does.
     fn read_through(&self, bytes: &[u8], cursor: &mut Cursor) -> Option<u8>
         requires alive { IsLiveState ((A.seen self.now.automaton.now).stands No) cursor.old.state }
-        ensures { ReadsThrough (scan_of (A.seen self.now.automaton.now) No self.now.stops) bytes.now cursor.old cursor.new result }
+        ensures { ReadsThrough (scan_by A.seen self.now) bytes.now cursor.old cursor.new result }
     {
         let (mut tape, mut looks) = open(&Input::new(bytes));
         if self.stops {
@@ -363,8 +363,7 @@ impl<'a, A: Automaton> Core<'a, A> {
     fn given_settled(&self, state: StateID, byte: Option<u8>, phase: Phase) -> Option<Given>
         requires core { IsCore (A.seen self.now.automaton.now) self.now.commits.now self.now.start self.now.stops }
         requires state { IsState ((A.seen self.now.automaton.now).stands No) state }
-        ensures { GivesSettled (A.seen self.now.automaton.now) self.now.commits.now.chains self.now.start self.now.stops state
-            byte phase result }
+        ensures { GivesSettled A.seen self.now state (byte, phase) result }
     {
         if self.stops || byte.is_some() || matches!(phase, Phase::Ended) {
             self.given_at(state)

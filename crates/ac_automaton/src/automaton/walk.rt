@@ -68,7 +68,7 @@ impl<'a, 'h, A: Automaton> FindIter<'a, 'h, A> {
         let finder = Finder::new(automaton, input.get_anchored(), input.get_earliest())?;
         let (tape, looks) = open(&input);
         let span = input.get_span();
-        let onward = finder.onward(span.start);
+        let onward = finder.onward(span);
         Ok(FindIter {
             search: TapedFinder {
                 finder,
@@ -115,7 +115,8 @@ impl<'a, 'h, A: Automaton> FindIter<'a, 'h, A> {
         let search = &mut self.search;
         let (tape, _) = open(&search.input);
         search.tape = tape;
-        let found = onward.next(self.span, &mut search.tape, &mut search.looks);
+        let here = &mut onward.here;
+        let found = onward.core.next(here, &mut search.tape, &mut search.looks);
         self.span.start = after(self.span, &found);
         if let Some(found) = &found {
             self.last = Some(found.end());

@@ -5,7 +5,7 @@ use Rattle.ac_automaton.specs.Prelude.{Lists, Scan, scanner}
 use Rattle.ac_automaton.specs.Reads.{MayRead, point}
 use Rattle.ac_automaton.proofs.ReadingOn.{may-go-on, piece-byte, piece-dead, reading-first, reading-piece, stops-end, stops-piece}
 use Rattle.ac_automaton.proofs.automaton.scan.Scanner.read_to_match.Given.{Over}
-use Rattle.ac_automaton.proofs.automaton.scan.Scanner.read_to_match.Goals.{After-read_byte-byte, then-there-end-via-then-there-end, then-there-end-via-else-there-end+then-is_match_or_dead}
+use Rattle.ac_automaton.proofs.automaton.scan.Scanner.read_to_match.Goals.{After-read_byte-byte, then-is_match_or_dead-via-else-is_match_or_dead+then-there-end, then-is_match_or_dead-via-then-is_match_or_dead}
 use Rattle.ac_automaton.proofs.automaton.scan.Scanner.read_to_match.Goals as goal
 
 -- there is nothing to read
@@ -57,19 +57,19 @@ returns-then-is_dead g c =
     (λ u there. (c.is_dead.ensures c.args.self.now.anchored u there).0 c.if-is_dead.true)) c.loop-state.invariant.before (inl (λ none. absurd (cc)))
 
 -- or to the end, or to a match
-pub returns-then-there-end : goal.returns-then-there-end
-returns-then-there-end g c =
-    let d = (goal.at.returns-then-there-end g c).After-read_byte-byte in
+pub returns-then-is_match_or_dead : goal.returns-then-is_match_or_dead
+returns-then-is_match_or_dead g c =
+    let d = (goal.at.returns-then-is_match_or_dead g c).After-read_byte-byte in
     stops-piece c.requires.may c.loop-state.invariant.reading (lists g d)
     (piece-byte (looks g d) (may g d) c.loop-state.invariant.before c.read_byte-byte.ensures.tries c.read_byte-byte.ensures.bytes
     (λ u there gone. false≢true (sym c.if-is_dead.false ∙ (c.is_dead.ensures c.args.self.now.anchored u there).1 gone)))
-    c.loop-state.invariant.before (inr (elim c.then-there-end.branch [
-      | then-there-end-via-then-there-end w ↦ inl w.if-there-end.true
-      | then-there-end-via-else-there-end+then-is_match_or_dead w ↦
+    c.loop-state.invariant.before (inr (elim c.then-is_match_or_dead.branch [
+      | then-is_match_or_dead-via-else-is_match_or_dead+then-there-end w ↦ inl w.if-there-end.true
+      | then-is_match_or_dead-via-then-is_match_or_dead w ↦
           inr (
             c.requires.stops,
             (let v = (may g d).alive in let there = c.read_byte-byte.ensures.tries.leads _ v.1 in
-                elim ((w.is_match_or_dead.ensures c.args.self.now.anchored _ there).0 w.if-is_match_or_dead.true) [
+                elim ((c.is_match_or_dead.ensures c.args.self.now.anchored _ there).0 w.if-is_match_or_dead.true) [
                   | inl gone ↦ absurd (false≢true (sym c.if-is_dead.false ∙ (c.is_dead.ensures c.args.self.now.anchored _ there).1 gone))
                   | inr some ↦ some
                 ]),

@@ -36,7 +36,7 @@ invariant_of-self-then-self-n g c =
     let d = (goal.at.invariant_of-self-then-self-n g c).After-read_after in
     let at = c.self.inside.filled in
     let n = c.in-Ok.n in
-    let took = c.in-Ok.ensures.reads in
+    let took = c.in-Ok.ensures.by in
     record {
       commits = c.self.invariant.commits;
       streams = streams-filled _ _ _ _ c.self.invariant.streams (opens g d) (buffer g d) (as_long g d) (keeps g d) n
@@ -52,7 +52,7 @@ invariant_of-self-then-self-n g c =
 pub returns-in-Ok : goal.returns-in-Ok
 returns-in-Ok g c =
     let d = (goal.at.returns-in-Ok g c).After-read_after in
-    let took = c.in-Ok.ensures.reads in
+    let took = c.in-Ok.ensures.by in
     let at = c.self.inside.filled in
     let n = c.in-Ok.n in
     let into = drop at c.read_after.new.buffer in
@@ -90,7 +90,7 @@ returns-in-Ok g c =
 -- or more bytes than usize counts
 pub returns-in-Ok-2 : goal.returns-in-Ok-2
 returns-in-Ok-2 g c =
-    let took = c.in-Ok.ensures.reads in
+    let took = c.in-Ok.ensures.by in
     let at = c.self.inside.filled in
     let n = c.in-Ok.n in
     let into = drop at c.read_after.new.buffer in

@@ -4,7 +4,7 @@ use Rattle.std.proofs.lemmas.List.{length-take-le}
 use Rattle.ac_automaton.specs.Util.{No, Node}
 use Rattle.ac_automaton.specs.Prelude.{AutomatonView, Failed, Inside, IsStreaming, matches_of, Streaming}
 use Rattle.ac_automaton.specs.Streams.{streaming_by}
-use Rattle.ac_automaton.specs.Onward.{pending, TakesFrom}
+use Rattle.ac_automaton.specs.Cores.{pending, TakesFrom}
 use Rattle.ac_automaton.specs.declared.automaton.commits.ChainMatch.{ChainMatch}
 use Rattle.ac_automaton.specs.declared.automaton.onward.ChainRest.{ChainRest}
 use Rattle.ac_automaton.proofs.StreamKnown.{gives-known, may-take-known, streams-known}

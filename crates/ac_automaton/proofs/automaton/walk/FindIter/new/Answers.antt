@@ -22,4 +22,4 @@ invariant_of-result g c =
 pub returns : goal.returns
 returns g c =
     let starts = ap (λ (s : Span). s.start) c.get_span-span.ensures in
-    search (rules, work-first g.A.Automaton.seen c.in_ok-finder.finder c.get_span-span.result.start c.onward-onward.result c.open-tape.ensures.tape c.open-tape.ensures.looks c.onward-onward.ensures)
+    search (rules, work-first g.A.Automaton.seen c.in_ok-finder.finder c.get_span-span.result c.onward-onward.result c.open-tape.ensures.tape c.open-tape.ensures.looks c.onward-onward.ensures)

@@ -1,7 +1,7 @@
 use Rattle.std.proofs.Common.{◌-◌}
 use Rattle.ac_automaton.specs.Prelude.{scanner}
 use Rattle.ac_automaton.proofs.FindPicks.{PicksOn}
-use Rattle.ac_automaton.proofs.automaton.scan.Scanner.find_on.Given as goal
+use Rattle.ac_automaton.proofs.automaton.scan.Scanner.find_front.Given as goal
 
 abbrev pub invariant-loop-here : goal.invariant-loop-here
 invariant-loop-here g l =

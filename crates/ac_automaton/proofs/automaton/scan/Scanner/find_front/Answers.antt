@@ -2,9 +2,9 @@ use Rattle.std.proofs.Common.{◌≡◌, ◌⊎◌, ℕ, subst, sym}
 use Rattle.ac_automaton.specs.Prelude.{Advances, scanner}
 use Rattle.ac_automaton.proofs.ReadAhead.{advances, may-read}
 use Rattle.ac_automaton.proofs.FindPicks.{finds-on, may-read-on, picks-start, picks-then, stands, stands-first, stands-then}
-use Rattle.ac_automaton.proofs.automaton.scan.Scanner.find_on.Given.{Over}
-use Rattle.ac_automaton.proofs.automaton.scan.Scanner.find_on.Goals.{After-enter}
-use Rattle.ac_automaton.proofs.automaton.scan.Scanner.find_on.Goals as goal
+use Rattle.ac_automaton.proofs.automaton.scan.Scanner.find_front.Given.{Over}
+use Rattle.ac_automaton.proofs.automaton.scan.Scanner.find_front.Goals.{After-enter}
+use Rattle.ac_automaton.proofs.automaton.scan.Scanner.find_front.Goals as goal
 
 pub match_at-last-requires : goal.match_at-last-requires
 match_at-last-requires g c = stands-first c.requires.may
