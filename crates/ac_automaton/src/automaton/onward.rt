@@ -211,7 +211,8 @@ impl<'a, A: Automaton> Core<'a, A> {
     }
 
     /// Reads on where it stops at no match.
-    #[inline]
+    // Always inlined: else the noncontiguous NFA's step is a call in the C library.
+    #[inline(always)]
     fn read_past(&self, here: &mut Position, tape: &mut Tape<'_>, looks: &mut Looks)
         requires lawful { IsSearchBy A.seen self.now }
         requires past { self.now.stops ≡ false }
@@ -292,7 +293,7 @@ impl<'a, A: Automaton> Core<'a, A> {
     }
 
     /// Gives the match that is picked where the search stands, and goes on from there; or none where nothing is picked.
-    #[inline]
+    // Without a hint: where it is inlined a leftmost match takes 20 instructions less, and each byte by the contiguous NFA one more.
     fn give(&self, here: &mut Position) -> Option<Match>
         requires lawful { IsSearchBy A.seen self.now }
         requires fits { FitsBefore (scan_by A.seen self.now) here.old.cursor }
