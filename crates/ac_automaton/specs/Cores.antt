@@ -50,7 +50,7 @@ TakesKnown built chains old result new =
     MatchOption result ((new ≡ None) × (pending built chains old ≡ []))
     (λ m. (rest : ChainRest) × (old ≡ Some rest) × TakesFrom built chains rest m new)
 
--- a walk may skip to its only pattern
+-- a search may skip to its only pattern
 abbrev pub SkipsToOnly : AutomatonView → List ℕ → Type 0
 SkipsToOnly a needle = Skips a.wants_prefilter a.built (Needle needle)
 
@@ -193,6 +193,7 @@ module _ {A M : Type 0} (seen : A → AutomatonView) (k : Core A M) where
   abbrev pub PicksBy : Spot → Option Occurrence → Spot → Type 0
   PicksBy p found q = PicksRead p found q ⊎ PicksNeedle p found q
 
+  -- in the same bytes, up to the same end
   pub record Picks (p : Spot) (found : Option Occurrence) (q : Spot) : Type 0 where
     pub bytes : q.bytes ≡ p.bytes
     pub end : q.here.end ≡ p.here.end
@@ -210,6 +211,7 @@ module _ {A M : Type 0} (seen : A → AutomatonView) (k : Core A M) where
   abbrev pub GoesBy : Spot → Option Occurrence → Spot → Type 0
   GoesBy p found q = GivesKnown p found q ⊎ ((pending view.built chains p.here.rest ≡ []) × PicksBy p found q)
 
+  -- in the same bytes, up to the same end
   pub record Goes (p : Spot) (found : Option Occurrence) (q : Spot) : Type 0 where
     pub bytes : q.bytes ≡ p.bytes
     pub end : q.here.end ≡ p.here.end
@@ -225,7 +227,7 @@ module _ {A M : Type 0} (seen : A → AutomatonView) (k : Core A M) where
     pub fits : FitsBefore scan_by p.here.cursor
     pub known : IfSome p.here.rest (MayTakeFrom view.built chains)
 
-  -- it has read on
+  -- it has read on, up to the same end
   pub record Leads (p q : Spot) : Type 0 where
     pub end : q.here.end ≡ p.here.end
     pub on : ReadsOn scan_by p.here.end (point_of p) (point_of q)

@@ -43,7 +43,7 @@ pub(super) struct Given {
     pub(super) chain: Option<usize>,
 }
 
-/// Where a search stands, and up to where it may read. It borrows nothing.
+/// Where a search stands. It borrows nothing.
 #[derive(Clone, Copy)]
 pub(super) struct Position {
     pub(super) cursor: Cursor,
@@ -114,7 +114,7 @@ impl<'a, A: Automaton> Core<'a, A> {
         }
     }
 
-    /// Returns the next match up to an end, and moves on: the next one of the chain, if one is left, or what is found.
+    /// Returns the next match up to its end, and moves on: the next one of the chain, if one is left, or what is found.
     pub(super) fn next(
         &self,
         here: &mut Position,
@@ -153,7 +153,7 @@ impl<'a, A: Automaton> Core<'a, A> {
         self.find_on(self.stops, here, tape, looks)
     }
 
-    /// Returns the next match up to an end, where none of a chain is left and nothing is in hand, and moves on. Its
+    /// Returns the next match up to its end, where none of a chain is left and nothing is in hand, and moves on. Its
     /// caller says whether it stops at a match.
     // Always inlined, so that a walk has the loop alone that reads past matches.
     #[inline(always)]
