@@ -1,15 +1,12 @@
 -- Making the commit of a child from that of its parent.
-use Rattle.std.proofs.Common.{◌≡◌, ◌&&◌, ℕ, suc, zero, ◌+◌, ◌-◌, ◌<◌, ◌≤◌, List, [], ◌∷◌, ◌++◌, length, length-append, length-drop, map, drop, inl, inr, refl, ap, sym, ◌∙◌, subst, arith, All, Some, None, slice_get, get_or, cond, Bool}
-use Rattle.std.proofs.lemmas.Bool.{cases_lt}
+use Rattle.std.proofs.Common.{◌≡◌, ◌&&◌, ℕ, suc, zero, ◌+◌, ◌-◌, ◌<◌, ◌≤◌, List, [], ◌∷◌, ◌++◌, length, length-append, length-drop, map, drop, refl, ap, sym, ◌∙◌, subst, arith, All, Some, None, slice_get, get_or, cond, Bool}
 use Rattle.std.proofs.lemmas.List.{append-nil, map-append}
 use Rattle.std.proofs.lemmas.List.Elements.{All-append, All-map}
-use Rattle.std.proofs.lemmas.Option.{slice_get_within}
-use Rattle.ac_automaton.specs.Util.{begins_with_pattern, is_leftmost, No, Node, Occurrence, pattern_of, plain_byte, reached, step}
+use Rattle.ac_automaton.specs.Util.{begins_with_pattern, GREATEST, is_leftmost, No, Node, Occurrence, pattern_of, plain_byte, reached, step}
 use Rattle.ac_util.specs.Prelude.{outward}
 use Rattle.ac_util.specs.Commits.{IsPickIn, Anything, Next, NodeCommits}
 use Rattle.ac_util.proofs.Commits.{commits-where}
 use Rattle.ac_util.proofs.NodeCommits.{node-dead, node-on, node-shorter}
-use Rattle.ac_util.proofs.NodeCount.{inner_nodes-only}
 use Rattle.ac_util.proofs.NodePicks.{dead-has_pick}
 use Rattle.ac_util.proofs.Picks.{same_occurrence}
 use Rattle.ac_util.proofs.Reached.{reached-cons, reached-nil}
@@ -17,10 +14,12 @@ use Rattle.ac_automaton.specs.declared.automaton.commits.ChainMatch.{ChainMatch}
 use Rattle.ac_automaton.specs.declared.automaton.commits.Commit.{Commit}
 use Rattle.ac_automaton.specs.declared.nfa.noncontiguous.state.Transition.{Transition}
 use Rattle.ac_automaton.specs.Commits.{chain_at, GrowsBy, HasChains, IsChainMatch, shifted}
-use Rattle.ac_automaton.specs.Committing.{ending_by, HasCommit, IsMade, LeadsToChild, Made, MeansWhole}
-use Rattle.ac_automaton.specs.Prelude.{FIRST_INNER, IsNumbered, START, State, state_at, TrieView}
+use Rattle.ac_automaton.specs.declared.nfa.noncontiguous.commits.Making.{Making}
+use Rattle.ac_automaton.specs.Committing.{AreMade, chain_by, ending_by, HasCommit, HasString, IsViewOf, LeadsToChild, lists_of, ListsView, Made, made_of, MayCommit, NeedsOne}
+use Rattle.ac_automaton.specs.Prelude.{HasState, IsNumbered, START, State, TrieView}
 use Rattle.ac_automaton.proofs.Chains.{chain-same, chains-longer, has-more}
-use Rattle.ac_automaton.proofs.Committing.{number-state, outer-empty}
+use Rattle.ac_automaton.proofs.Committing.{holds-none, number-node, shorter-before, string-few}
+use Rattle.ac_automaton.proofs.TrieStates.{dead-number, number-state}
 
 -- what holds of all matches of a chain still does where it is weaker
 All-weaker : {P Q : ChainMatch → Type 0} (chain : List ChainMatch) → All P chain → ((m : ChainMatch) → P m → Q m) → All Q chain
@@ -60,223 +59,233 @@ module _ {g : TrieView} where
       }
 
   -- so what was made stays made
-  pub made-kept : {m : Made} {s : ℕ} {chains : List (List ChainMatch)} → HasChains m.chains chains → IsMade g m s
-      → IsMade g (record m { chains = chains }) s
-  made-kept {m = m} more made = record {
+  pub made-kept : {m : Made} {chains : List (List ChainMatch)} → HasChains m.chains chains → AreMade g m
+      → AreMade g (record m { chains = chains })
+  made-kept more made = record {
     long = made.long;
     first = chain-same more 0 made.chained ∙ made.first;
     chained = (let c = made.chained in let l = chains-longer more in omega arith);
     each = λ k commit at u named. commit-kept more (made.each k commit at u named);
     placed = made.placed;
-    done = made.done;
   }
 
--- on the way from a parent to its child: the walk of what the parent's string has after its pick has given a chain, and stands
--- at a node, before the byte
-pub record OnWay (g : TrieView) (m : Made) (chains : List (List ChainMatch)) (s : ℕ) (u : List ℕ) (parent : Commit)
-    (next : Transition) (leads : LeadsToChild g m.chains s u parent next) (at chain : ℕ) : Type 0 where
-  pub kept : HasChains m.chains chains
-  pub chained : chain < length chains
-  pub matches : All (IsChainMatch g.patterns parent.rest) (chain_at chains chain)
-  pub node : List ℕ
-  pub named : IsNumbered g.nodes at node
-  pub way : NodeCommits g.kind g.patterns u (Next (plain_byte g.ignores_case next.byte)) leads.commit.picked
-      (map (ending_by g.patterns) (chain_at chains chain)) node
-
-module _ {g : TrieView} {states : List State} (whole : MeansWhole g states) where
+module _ {g : TrieView} {states : List State} (may : MayCommit g states) where
   -- a number from the start on is that of a string
   pub number-alive : (t : ℕ) (n : Node) → START ≤ t → slice_get g.nodes t ≡ Some n → (x : List ℕ) × (n ≡ Some x)
-  number-alive t n from named = elim (cases_lt t FIRST_INNER) [
-    | inl outer ↦ elim (cases_lt t (START + 1)) [
-      | inl first ↦ (
-        [],
-        let e : t ≡ START = omega arith in
-            let same = sym named ∙ ap (slice_get g.nodes) e ∙ whole.start in cc,
-      )
-      | inr second ↦ (
-        [],
-        let e : t ≡ START + 1 = omega arith in
-            let same = sym named ∙ ap (slice_get g.nodes) e ∙ whole.anchored_start in cc,
-      )
-    ]
-    | inr inner ↦
-        let is = whole.numbered.node t inner (slice_get_within g.nodes t n named) in
-        (is.0, let same = sym named ∙ is.1.named in cc)
-  ]
-
-  -- any other is dead
-  pub number-dead : (t : ℕ) (n : Node) → t < START → slice_get g.nodes t ≡ Some n → n ≡ None
-  number-dead zero n before named = let same = sym named ∙ whole.meant.dead in cc
-  number-dead (suc zero) n before named = let same = sym named ∙ whole.unreached in cc
-  number-dead (suc (suc t)) n before named = absurd (omega arith)
+  number-alive t None from named = absurd (let dead = (dead-number may.all t None named).1 refl in omega arith)
+  number-alive t (Some x) from named = (x, refl)
 
   -- a node is reached by its own string
   pub node-reached : (s : ℕ) (v : List ℕ) → IsNumbered g.nodes s v → reached g.kind g.patterns No v ≡ Some v
   node-reached s [] named = reached-nil g.kind g.patterns No
-  node-reached s (x ∷ v) named = elim (cases_lt s FIRST_INNER) [
-    | inl outer ↦ absurd (let none = outer-empty whole s (x ∷ v) named outer in cc)
-    | inr inner ↦
-        let node = inner_nodes-only g.kind g.patterns (x ∷ v) (whole.numbered.only s (x ∷ v) (record { inner = inner; named = named })) in
-        reached-cons g.kind g.patterns x v
-        ∙ ap (λ (t : Bool). cond t (Some (x ∷ v))
-        (cond (is_leftmost g.kind && begins_with_pattern g.patterns (x ∷ v)) None (reached g.kind g.patterns No v))) node.0
-  ]
-
-  -- a state says how long its string is
-  pub depth-long : (s : ℕ) (v : List ℕ) → IsNumbered g.nodes s v → (state_at states s).depth ≡ length v
-  depth-long s v named = (whole.meant.each s (Some v) (number-state whole s (Some v) named).there named).long
-
-  -- of two strings the shorter has the lesser number
-  pub shorter-before : (s t : ℕ) (u v : List ℕ) → IsNumbered g.nodes s u → IsNumbered g.nodes t v → length v < length u → t < s
-  shorter-before s t u v named other short = elim (cases_lt t s) [
-    | inl before ↦ before
-    | inr after ↦ absurd (let deep = whole.rising s t (Some u) (Some v) named other after in omega arith)
-  ]
+  node-reached s (x ∷ v) named =
+      reached-cons g.kind g.patterns x v
+      ∙ ap (λ (t : Bool). cond t (Some (x ∷ v))
+      (cond (is_leftmost g.kind && begins_with_pattern g.patterns (x ∷ v)) None (reached g.kind g.patterns No v)))
+      (number-node may s (x ∷ v) named)
 
   -- a pick has bytes
   pub pick-some : (u : List ℕ) (m : Occurrence) → IsPickIn g.kind g.patterns No u (Some m) → m.start < m.end
   pick-some u m picked =
-      let some = whole.some m.pattern picked.stands.prefixes.numbered in let long = picked.as_long in omega arith
+      let some = may.some m.pattern picked.stands.prefixes.numbered in let long = picked.as_long in omega arith
 
-  module _ {m : Made} {s : ℕ} {u : List ℕ} {parent : Commit} {next : Transition} (leads : LeadsToChild g m.chains s u parent next)
-    where
-      -- as it begins
-      pub way-starts : (made : IsMade g m s) → OnWay g m m.chains s u parent next leads parent.next parent.chain
-      way-starts made = record {
-        kept = record { added = []; whole = sym (append-nil m.chains) };
-        chained = leads.commit.chained;
-        matches = leads.commit.matches;
-        node = leads.commit.node;
-        named = leads.commit.named;
-        way = record {
-          picked = leads.commit.gives.picked;
-          rest = commits-where g.kind g.patterns whole.leftmost whole.some (drop leads.commit.picked.end u)
-              (map (ending_by g.patterns) (chain_at m.chains parent.chain)) leads.commit.node (Next (plain_byte g.ignores_case next.byte)) leads.commit.gives.rest;
-        };
-      }
+-- a state of what is made of the same lists by now
+abbrev pub state-in : {Z : Type 0} {old new : Making Z} {s t : ℕ} (at : HasString old s) → lists_of new ≡ lists_of old
+    → AreMade at.view (made_of new) → (u : List ℕ) → IsNumbered at.view.nodes t u → HasString new t
+state-in at same made u named = record {
+  view = at.view;
+  lists = subst (λ (lists : ListsView). IsViewOf lists at.view) (sym same) at.lists;
+  made = made;
+  string = u;
+  named = named;
+}
 
-      module _ {chains : List (List ChainMatch)} {at chain : ℕ} (way : OnWay g m chains s u parent next leads at chain) where
-        -- the node is shorter than the string
-        pub way-short : length way.node ≤ parent.rest
-        way-short =
-            let short = node-shorter g.kind g.patterns whole.leftmost whole.some u leads.commit.picked
-            (map (ending_by g.patterns) (chain_at chains chain)) way.node (Next (plain_byte g.ignores_case next.byte)) way.way in
-            let rest = leads.commit.rest in omega arith
+-- on the way from a parent to its child: the walk of what the parent's string has after its pick has given a chain, and stands
+-- at a node, before the byte
+pub record OnWay {Z : Type 0} {making : Making Z} {parent : Commit} {next : Transition} (leads : LeadsToChild making parent next)
+    (chains : List (List ChainMatch)) (at chain : ℕ) : Type 0 where
+  pub kept : HasChains making.chains chains
+  pub chained : chain < length chains
+  pub matches : All (IsChainMatch leads.child.at.view.patterns parent.rest) (chain_at chains chain)
+  pub node : List ℕ
+  pub named : IsNumbered leads.child.at.view.nodes at node
+  pub way : NodeCommits leads.child.at.view.kind leads.child.at.view.patterns leads.child.at.string
+      (Next (plain_byte leads.child.at.view.ignores_case next.byte)) leads.child.commit.picked
+      (chain_by leads.child.at.view.patterns chains chain) node
 
-        pub way-before : at < s
-        way-before =
-            let short = way-short in let rest = leads.commit.rest in
-            let some = pick-some u leads.commit.picked leads.commit.gives.picked in
-            shorter-before s at u way.node leads.named way.named (omega arith)
+module _ {Z : Type 0} {making : Making Z} {parent : Commit} {next : Transition} (leads : LeadsToChild making parent next) where
+  abbrev g : TrieView
+  g = leads.child.at.view
 
-        -- where the byte leads on from it, the child has its commit
-        pub way-ends : (to rest : ℕ) → START ≤ to → slice_get g.nodes to ≡ Some (step g.kind g.patterns No (Some way.node) (plain_byte g.ignores_case next.byte))
-            → rest ≡ length (u ++ plain_byte g.ignores_case next.byte ∷ []) - (length u - parent.rest)
-            → HasCommit g chains (u ++ plain_byte g.ignores_case next.byte ∷ [])
-            (record parent { state = next.target; rest = rest; next = to; chain = chain })
-        way-ends to rest alive leads-to is =
-            let x = number-alive to (step g.kind g.patterns No (Some way.node) (plain_byte g.ignores_case next.byte)) alive leads-to in
-            let long = length-append u (plain_byte g.ignores_case next.byte ∷ []) in let before = leads.commit.rest in
-            record {
-              picked = leads.commit.picked;
-              number = leads.commit.number;
-              rest = omega arith;
-              chained = way.chained;
-              matches = All-weaker {P = IsChainMatch g.patterns parent.rest} {Q = IsChainMatch g.patterns rest} (chain_at chains chain) way.matches (λ m is-match. record {
+  abbrev u : List ℕ
+  u = leads.child.at.string
+
+  abbrev b : ℕ
+  b = plain_byte g.ignores_case next.byte
+
+  abbrev commit : HasCommit g making.chains u parent
+  commit = leads.child.commit
+
+  pub may-commit : MayCommit g making.states.now
+  may-commit = leads.child.at.lists.may
+
+  -- as it begins
+  pub way-starts : OnWay leads making.chains parent.next parent.chain
+  way-starts = record {
+    kept = record { added = []; whole = sym (append-nil making.chains) };
+    chained = commit.chained;
+    matches = commit.matches;
+    node = commit.node;
+    named = commit.named;
+    way = record {
+      picked = commit.gives.picked;
+      rest = commits-where g.kind g.patterns may-commit.leftmost may-commit.some (drop commit.picked.end u)
+          (chain_by g.patterns making.chains parent.chain) commit.node (Next b) commit.gives.rest;
+    };
+  }
+
+  -- the child's string isn't longer than there are numbers
+  pub child-few : length u + 1 ≤ GREATEST
+  child-few =
+      let few = string-few may-commit next.target (u ++ b ∷ []) leads.child.longer_named in
+      let long = length-append u (b ∷ []) in omega arith
+
+  module _ {chains : List (List ChainMatch)} {at chain : ℕ} (way : OnWay leads chains at chain) where
+    abbrev given : List Occurrence
+    given = chain_by g.patterns chains chain
+
+    -- the node is shorter than the string
+    pub way-short : length way.node ≤ parent.rest
+    way-short =
+        let short = node-shorter g.kind g.patterns may-commit.leftmost may-commit.some u commit.picked given way.node (Next b) way.way in
+        let rest = commit.rest in omega arith
+
+    way-back : at < parent.state
+    way-back =
+        let short = way-short in let rest = commit.rest in let some = pick-some may-commit u commit.picked commit.gives.picked in
+        shorter-before may-commit parent.state at u way.node leads.child.at.named way.named (omega arith)
+
+    -- where it needs no commit, it has no pick
+    pub way-none : NeedsOne g (made_of making).index at way.node → IsPickIn g.kind g.patterns No way.node None
+    way-none need = holds-none may-commit at way.node (λ p t w b less. leads.child.done p t w b
+        (let back = way-back in omega arith)) way.named need
+
+    -- one of the states stands for the node
+    pub way-state : HasState g making.states.now at (Some way.node)
+    way-state = number-state may-commit.all at (Some way.node) way.named
+
+    -- where the byte leads from there
+    abbrev pub way-step : Node
+    way-step = step g.kind g.patterns No (Some way.node) b
+
+    -- where it leads on, the child has its commit
+    pub way-ends : (to : ℕ) → START ≤ to → slice_get g.nodes to ≡ Some way-step
+        → HasCommit g chains (u ++ b ∷ []) (record parent { state = next.target; rest = parent.rest + 1; next = to; chain = chain })
+    way-ends to alive leads-to =
+        let x = number-alive may-commit to way-step alive leads-to in
+        let long = length-append u (b ∷ []) in let before = commit.rest in
+        record {
+          picked = commit.picked;
+          number = commit.number;
+          rest = omega arith;
+          chained = way.chained;
+          matches = All-weaker {P = IsChainMatch g.patterns parent.rest} {Q = IsChainMatch g.patterns (parent.rest + 1)} (chain_at chains chain)
+              way.matches (λ m is-match. record {
                 numbered = is-match.numbered;
                 fits = is-match.fits;
                 within = (let w = is-match.within in omega arith);
               });
-              node = x.0;
-              named = leads-to ∙ ap (λ (n : Node). Some n) x.1;
-              gives = node-on g.kind g.patterns whole.leftmost whole.some u (plain_byte g.ignores_case next.byte) leads.commit.picked
-                  (map (ending_by g.patterns) (chain_at chains chain)) way.node x.0 way.way leads.none x.1;
-            }
+          node = x.0;
+          named = leads-to ∙ ap (λ (n : Node). Some n) x.1;
+          gives = node-on g.kind g.patterns may-commit.leftmost may-commit.some u b commit.picked given way.node x.0 way.way leads.matchless x.1;
+        }
 
-        -- else it has a pick
-        module _ (dead : step g.kind g.patterns No (Some way.node) (plain_byte g.ignores_case next.byte) ≡ None) where
-          pub way-picks : IsPickIn g.kind g.patterns No way.node None → ⊥
-          way-picks = dead-has_pick g.kind g.patterns whole.leftmost way.node (plain_byte g.ignores_case next.byte) (node-reached at way.node way.named) dead
+    -- else it has a pick
+    module _ (dead : way-step ≡ None) where
+      pub way-picks : IsPickIn g.kind g.patterns No way.node None → ⊥
+      way-picks = dead-has_pick g.kind g.patterns may-commit.leftmost way.node b (node-reached may-commit at way.node way.named) dead
 
-          -- its commit lies within what is left
-          module _ (held : Commit) (has : HasCommit g chains way.node held) where
-            pub held-short : held.rest ≤ parent.rest
-            held-short = let short = way-short in let rest = has.rest in omega arith
+      -- its commit lies within what is left
+      module _ (held : Commit) (has : HasCommit g chains way.node held) where
+        abbrev more : List Occurrence
+        more = chain_by g.patterns chains held.chain
 
-            pub held-deeper : length has.node < length way.node
-            held-deeper =
-                let short = node-shorter g.kind g.patterns whole.leftmost whole.some way.node has.picked
-                (map (ending_by g.patterns) (chain_at chains held.chain)) has.node Anything has.gives in
-                let some = pick-some way.node has.picked has.gives.picked in let rest = has.rest in omega arith
+        pub held-short : held.rest ≤ parent.rest
+        held-short = let short = way-short in let rest = has.rest in omega arith
 
-            abbrev end : ℕ
-            end = parent.rest - held.rest
+        pub held-before : held.next < at
+        held-before =
+            let short = node-shorter g.kind g.patterns may-commit.leftmost may-commit.some way.node has.picked more has.node Anything
+            has.gives in
+            let some = pick-some may-commit way.node has.picked has.gives.picked in let rest = has.rest in
+            shorter-before may-commit at held.next way.node has.node way.named has.named (omega arith)
 
-            -- the match that is picked there, counted from the end of the parent's
-            abbrev first : ChainMatch
-            first = record { pattern = held.pattern; end = end }
+        abbrev end : ℕ
+        end = parent.rest - held.rest
 
-            abbrev placed : Occurrence
-            placed = outward (length (drop leads.commit.picked.end u) - length way.node) has.picked
+        -- the match that is picked there, counted from the end of the parent's
+        abbrev first : ChainMatch
+        first = record { pattern = held.pattern; end = end }
 
-            end-is : end ≡ placed.end
-            end-is =
-                let long = length-drop leads.commit.picked.end u in let rest = leads.commit.rest in
-                let inner = has.rest in let short = way-short in omega arith
+        abbrev placed : Occurrence
+        placed = outward (length (drop commit.picked.end u) - length way.node) has.picked
 
-            first-fits : length (pattern_of g.patterns held.pattern) ≤ has.picked.end
-            first-fits =
-                subst (λ (n : ℕ). length (pattern_of g.patterns n) ≤ has.picked.end) has.number
-                (let long = has.gives.picked.as_long in omega arith)
+        end-is : end ≡ placed.end
+        end-is =
+            let long = length-drop commit.picked.end u in let rest = commit.rest in
+            let inner = has.rest in let short = way-short in omega arith
 
-            first-is : ending_by g.patterns first ≡ placed
-            first-is =
-                same_occurrence (ending_by g.patterns first) placed (sym has.number)
-                (let long = ap (λ (n : ℕ). has.picked.start + length (pattern_of g.patterns n)) (sym has.number) ∙ has.gives.picked.as_long in
-                let is = end-is in omega arith) end-is
+        first-fits : length (pattern_of g.patterns held.pattern) ≤ has.picked.end
+        first-fits =
+            subst (λ (n : ℕ). length (pattern_of g.patterns n) ≤ has.picked.end) has.number
+            (let long = has.gives.picked.as_long in omega arith)
 
-            more-are : map (ending_by g.patterns) (first ∷ map (shifted end) (chain_at chains held.chain))
-                ≡ placed ∷ map (outward placed.end) (map (ending_by g.patterns) (chain_at chains held.chain))
-            more-are =
-                ap (λ (o : Occurrence). o ∷ map (ending_by g.patterns) (map (shifted end) (chain_at chains held.chain))) first-is
-                ∙ ap (λ (os : List Occurrence). placed ∷ os)
-                (map-shifted g.patterns end held.rest (chain_at chains held.chain) has.matches
-                ∙ ap (λ (k : ℕ). map (outward k) (map (ending_by g.patterns) (chain_at chains held.chain))) end-is)
+        first-is : ending_by g.patterns first ≡ placed
+        first-is =
+            same_occurrence (ending_by g.patterns first) placed (sym has.number)
+            (let long = ap (λ (n : ℕ). has.picked.start + length (pattern_of g.patterns n)) (sym has.number) ∙ has.gives.picked.as_long in
+            let is = end-is in omega arith) end-is
 
-            -- all that is given lies in what is left
-            more-match : All (IsChainMatch g.patterns parent.rest) (first ∷ map (shifted end) (chain_at chains held.chain))
-            more-match zero d within = record {
-              numbered = subst (λ (n : ℕ). n < length g.patterns) has.number has.gives.picked.stands.prefixes.numbered;
-              fits = (let is = end-is in let fits = first-fits in omega arith);
-              within = omega arith;
-            }
-            more-match (suc k) d within =
-                All-map (IsChainMatch g.patterns parent.rest) (shifted end) (chain_at chains held.chain)
-                (All-weaker {P = IsChainMatch g.patterns held.rest} {Q = λ (m : ChainMatch). IsChainMatch g.patterns parent.rest (shifted end m)}
-                (chain_at chains held.chain) has.matches (λ m is-match. record {
-                  numbered = is-match.numbered;
-                  fits = (let f = is-match.fits in omega arith);
-                  within = (let w = is-match.within in let short = held-short in omega arith);
-                })) k d (omega arith)
+        more-are : map (ending_by g.patterns) (first ∷ map (shifted end) (chain_at chains held.chain))
+            ≡ placed ∷ map (outward placed.end) more
+        more-are =
+            ap (λ (o : Occurrence). o ∷ map (ending_by g.patterns) (map (shifted end) (chain_at chains held.chain))) first-is
+            ∙ ap (λ (os : List Occurrence). placed ∷ os)
+            (map-shifted g.patterns end held.rest (chain_at chains held.chain) has.matches
+            ∙ ap (λ (k : ℕ). map (outward k) more) end-is)
 
-            -- and then that is given
-            pub way-on : (new : List (List ChainMatch)) (number : ℕ)
-                → GrowsBy chains chain (first ∷ map (shifted end) (chain_at chains held.chain)) new number
-                → OnWay g m new s u parent next leads held.next number
-            way-on new number grows = record {
-              kept = has-more way.kept grows.kept;
-              chained = grows.chained;
-              matches = subst (All (IsChainMatch g.patterns parent.rest)) (sym grows.grown)
-                  (All-append (IsChainMatch g.patterns parent.rest) (chain_at chains chain)
-                  (first ∷ map (shifted end) (chain_at chains held.chain)) way.matches more-match);
-              node = has.node;
-              named = has.named;
-              way = subst (λ (os : List Occurrence). NodeCommits g.kind g.patterns u (Next (plain_byte g.ignores_case next.byte))
-                  leads.commit.picked os has.node)
-                  (sym (ap (map (ending_by g.patterns)) grows.grown
-                  ∙ map-append (ending_by g.patterns) (chain_at chains chain) (first ∷ map (shifted end) (chain_at chains held.chain))
-                  ∙ ap (λ (os : List Occurrence). map (ending_by g.patterns) (chain_at chains chain) ++ os) more-are))
-                  (node-dead g.kind g.patterns whole.leftmost whole.some u (plain_byte g.ignores_case next.byte) leads.commit.picked
-                  (map (ending_by g.patterns) (chain_at chains chain)) way.node way.way dead has.picked
-                  (map (ending_by g.patterns) (chain_at chains held.chain)) has.node has.gives);
-            }
+        -- all that is given lies in what is left
+        more-match : All (IsChainMatch g.patterns parent.rest) (first ∷ map (shifted end) (chain_at chains held.chain))
+        more-match zero d within = record {
+          numbered = subst (λ (n : ℕ). n < length g.patterns) has.number has.gives.picked.stands.prefixes.numbered;
+          fits = (let is = end-is in let fits = first-fits in omega arith);
+          within = omega arith;
+        }
+        more-match (suc k) d within =
+            All-map (IsChainMatch g.patterns parent.rest) (shifted end) (chain_at chains held.chain)
+            (All-weaker {P = IsChainMatch g.patterns held.rest} {Q = λ (m : ChainMatch). IsChainMatch g.patterns parent.rest (shifted end m)}
+            (chain_at chains held.chain) has.matches (λ m is-match. record {
+              numbered = is-match.numbered;
+              fits = (let f = is-match.fits in omega arith);
+              within = (let w = is-match.within in let short = held-short in omega arith);
+            })) k d (omega arith)
+
+        -- and then that is given
+        pub way-on : (new : List (List ChainMatch)) (number : ℕ)
+            → GrowsBy chains chain (first ∷ map (shifted end) (chain_at chains held.chain)) new number
+            → OnWay leads new held.next number
+        way-on new number grows = record {
+          kept = has-more way.kept grows.kept;
+          chained = grows.chained;
+          matches = subst (All (IsChainMatch g.patterns parent.rest)) (sym grows.grown)
+              (All-append (IsChainMatch g.patterns parent.rest) (chain_at chains chain)
+              (first ∷ map (shifted end) (chain_at chains held.chain)) way.matches more-match);
+          node = has.node;
+          named = has.named;
+          way = subst (λ (os : List Occurrence). NodeCommits g.kind g.patterns u (Next b) commit.picked os has.node)
+              (sym (ap (map (ending_by g.patterns)) grows.grown
+              ∙ map-append (ending_by g.patterns) (chain_at chains chain) (first ∷ map (shifted end) (chain_at chains held.chain))
+              ∙ ap (λ (os : List Occurrence). given ++ os) more-are))
+              (node-dead g.kind g.patterns may-commit.leftmost may-commit.some u b commit.picked given way.node way.way dead has.picked
+              more has.node has.gives);
+        }

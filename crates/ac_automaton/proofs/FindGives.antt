@@ -16,7 +16,7 @@ use Rattle.ac_util.proofs.Walks.{pick-Occurs}
 use Rattle.ac_util.specs.declared.search.Anchored.{Anchored}
 use Rattle.ac_automaton.specs.Automata.{Lists}
 use Rattle.ac_automaton.specs.Finds.{is_free}
-use Rattle.ac_automaton.specs.Prelude.{AutomatonView, Cursor, found_at, HasRead, HasReadMatch, HasSearched, in_memory, IsAlive, IsAnswered, matches_of, most_looks, node, picking_by, place_of, plain_of, ReadsTo, Scan, ScansTo, ScanText, search_through, Skips, Work}
+use Rattle.ac_automaton.specs.Prelude.{AutomatonView, Cursor, found_at, HasRead, HasReadMatch, HasSearched, in_memory, IsAlive, IsAnswered, matches_of, most_looks, node, place_of, plain_of, ReadsTo, Scan, ScansTo, ScanText, search_through, Skips, Work}
 use Rattle.ac_automaton.specs.Cores.{begun_by, first_given, Leaves, GivesAt, GivesHere, IsSearchBy, PicksBy, scan_by, Spot}
 use Rattle.ac_automaton.specs.Reads.{Comes, HasReadOn, in_hand, IsAtStart, Point, read_to, ReadsOn}
 use Rattle.ac_automaton.specs.Scans.{StopsAtDead}
@@ -25,7 +25,7 @@ use Rattle.ac_automaton.specs.declared.automaton.onward.Given.{Given}
 use Rattle.ac_automaton.specs.declared.automaton.onward.Position.{Position}
 use Rattle.ac_automaton.specs.declared.automaton.skip.SkipBudget.{SkipBudget}
 use Rattle.ac_automaton.proofs.FindAhead.{answer-there, decided-there, ends-there, found-nothing, picked-ahead, picked-there as picked-at}
-use Rattle.ac_automaton.proofs.FindLoop.{goes_on-by, goes_on-none, order, picked-start, picked-still, searched, up_to}
+use Rattle.ac_automaton.proofs.FindLoop.{goes_on-by, goes_on-none, order, picked-start, picked-still, searched, up_to, picking_by}
 use Rattle.ac_automaton.proofs.OnwardGives.{gives-first, gives-past}
 use Rattle.ac_automaton.proofs.OnwardNeedle.{none-in, one-takes_part}
 use Rattle.ac_automaton.proofs.PastGives.{ends-there as ends-in, picks-first}

@@ -7,9 +7,14 @@ use Rattle.ac_util.proofs.Beginning.{pick-within}
 use Rattle.ac_util.proofs.Walks.{pick-in_span}
 use Rattle.ac_util.proofs.OneLonger.{pick-empty_none, pick-empty_some, none-past_end}
 use Rattle.ac_util.proofs.SearchLoop.{SearchGoesOn, pick-goes_on, pick-found, pick-stays_dead}
-use Rattle.ac_automaton.specs.Prelude.{found_at, HasSearched, in_memory, IsDecided, matches_of, node, Picking, picking_by, place_of, ReadsTo, Scan, ScansTo, search_through, HasReadMatch, Work}
+use Rattle.ac_automaton.specs.Finds.{picking_of}
+use Rattle.ac_automaton.specs.Prelude.{found_at, HasSearched, in_memory, IsDecided, matches_of, node, Picking, place_of, ReadsTo, Scan, ScansTo, search_through, HasReadMatch, Work}
 use Rattle.ac_automaton.specs.Scans.{StopsAtDead}
 use Rattle.ac_automaton.proofs.ReadOn.{read-nothing, read-scanned}
+
+-- how a scan's finds are made that stop at the first match, or not
+abbrev pub picking_by : Scan → Bool → Picking
+picking_by s stops = picking_of s.most s.built.kind s.wants_prefilter stops
 
 -- what is found ends where the text read ends
 pub found-end : (built : Built) (a : Anchored) (u : Node) (end : ℕ) (m : Occurrence)

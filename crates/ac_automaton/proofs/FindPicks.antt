@@ -5,10 +5,12 @@ use Rattle.std.proofs.lemmas.Grind.{common_steps}
 use Rattle.ac_util.proofs.SearchLoop.{SearchGoesOn}
 use Rattle.ac_util.specs.declared.search.Anchored.{Anchored}
 use Rattle.ac_automaton.specs.Util.{Counts, is_leftmost, Node, Occurrence, order_of, pick, Span, Standard, Taped, usize_max}
-use Rattle.ac_automaton.specs.Prelude.{Advances, AutomatonView, Cursor, finding_of, FindsIn, FindsOn, FitsIn, found_at, in_memory, IsAlive, IsAnswered, IsAt, MayAdvance, MayFind, MaySearch, node, PassesNoMatch, Scan, scan_of, ScannerView, ScansTo, ScanText, search_through, work_of}
-use Rattle.ac_automaton.specs.Finds.{FindsAt, IsReady, StandsIn}
+use Rattle.ac_automaton.specs.Prelude.{AutomatonView, Cursor, finding_of, HasSearched, FindsIn, FitsIn, found_at, in_memory, IsAlive, IsAnswered, IsAt, MayAdvance, MaySearch, node, PassesNoMatch, Scan, scan_of, ScannerView, ScansTo, ScanText, search_through, work_of}
+use Rattle.ac_automaton.specs.Reads.{Advances, at, Point}
+use Rattle.ac_automaton.specs.Scans.{tape_with, Work, WorkedTape}
+use Rattle.ac_automaton.specs.Finds.{FindsAt, StandsIn}
 use Rattle.ac_automaton.proofs.FindAhead.{IsUnanswered, answer-there, decided-there, ends-or, ends-there, picked-or, unanswered-by}
-use Rattle.ac_automaton.proofs.FindLoop.{goes_on-by, picked-start, searched}
+use Rattle.ac_automaton.proofs.FindLoop.{goes_on-by, picked-start, picking_by, searched}
 use Rattle.ac_automaton.proofs.ReadOn.{at-start, node-fits, scans-nothing, scans-on}
 
 module _ (v : ScannerView) (bytes : List ℕ) (here : Cursor) (is_at : IsAt v.scan (in_memory bytes v.span) here.state here.at) where
@@ -35,6 +37,28 @@ pub record PicksOn (v : ScannerView) (stops : Bool) (cursor : Cursor) (tape : Ta
       ≡ pick (order_of v.scan.built.kind stops) (record (search_through v.scan (in_memory tape.bytes v.span)) { high = new_cursor.at })
   pub scans : ScansTo v.scan (in_memory tape.bytes v.span) cursor.at (work_of tape counts) new_cursor.at (work_of new_tape new_counts)
   pub ends : order_of v.scan.built.kind stops ≡ Standard → IfSome picked (λ m. m.end ≡ new_cursor.at)
+
+-- a find may read on from here: of the text so far it picks what the node finds
+pub record IsReady (s : Scan) (t : ScanText) (stops : Bool) (cursor : Cursor) : Type 0 where
+  pub is_at : IsAt s t cursor.state cursor.at
+  pub picked : found_at s.built s.anchored (node s t cursor.at) cursor.at
+      ≡ pick (order_of s.built.kind stops) (record (search_through s t) { high = cursor.at })
+
+-- a find that stops at the first match, or not, may read on from a cursor within its span
+pub record MayFind (v : ScannerView) (stops : Bool) (tape : Taped) (cursor : Cursor) : Type 0 where
+  pub leftmost : stops ≡ false → is_leftmost v.scan.built.kind ≡ true
+  pub within : cursor.at ≤ v.span.end
+  pub inside : v.span.end ≤ length tape.bytes
+  pub unread : tape.place ≤ cursor.at
+  pub small : v.span.end ≤ usize_max
+  pub ready : IsReady v.scan (in_memory tape.bytes v.span) stops cursor
+
+-- it has answered, whatever was done before the cursor
+pub record FindsOn (v : ScannerView) (stops : Bool) (p : Point) (found : Option Occurrence) (q : WorkedTape) : Type 0 where
+  pub bytes : q.bytes ≡ p.bytes
+  pub searched : (begun : Work)
+      → ScansTo v.scan (in_memory p.bytes v.span) v.span.start begun p.cursor.at p.work
+      → HasSearched (picking_by v.scan stops) (search_through v.scan (in_memory p.bytes v.span)) found begun q.work
 
 module _ {v : ScannerView} {stops : Bool} {start : Cursor} {tape : Taped} (may : MayFind v stops tape start) where
   abbrev text-there : ScanText
@@ -76,7 +100,7 @@ module _ {v : ScannerView} {stops : Bool} {start : Cursor} {tape : Taped} (may :
           may-read-on = search (rules, alive, unanswered)
 
           module _ {then_cursor : Cursor} {new_tape : Taped} {new_counts : Counts}
-              (advances : Advances v here tape_here counts_here then_cursor new_tape new_counts) where
+              (advances : Advances v (at here tape_here counts_here) (at then_cursor new_tape new_counts)) where
             passed : PassesNoMatch v.scan text-there here.at (work_of tape_here counts_here) then_cursor (work_of new_tape new_counts)
             passed = advances.passes text-there (sym on.bytes) alive
 
@@ -104,7 +128,7 @@ module _ {v : ScannerView} {stops : Bool} {start : Cursor} {tape : Taped} (may :
                 }
 
         -- what is picked where it has its answer is the answer
-        pub finds-on : test ≡ true → FindsOn v stops start tape counts last tape_here counts_here
+        pub finds-on : test ≡ true → FindsOn v stops (at start tape counts) last (tape_with tape_here counts_here)
         finds-on holds =
             let answered = (says _ stands).0 holds in
             record {
@@ -124,21 +148,18 @@ ready-start : (s : Scan) (stops : Bool) (bytes : List ℕ) (span : Span) {state 
     → span.start ≤ length bytes → IsReady s (in_memory bytes span) stops (record { state = state; at = span.start })
 ready-start s stops bytes span there inside = search (rules, at-start, picked-start)
 
-pub may-find-first : {v : ScannerView} {stops : Bool} {tape : Taped} {state : ℕ} → MaySearch v.span tape
-    → v.span.end ≤ usize_max → v.span.start ≤ v.span.end → v.scan.stands state (Some []) → (stops ≡ false → is_leftmost v.scan.built.kind ≡ true)
-    → MayFind v stops tape (record { state = state; at = v.span.start })
-may-find-first {v} {stops} {tape} may small ordered starts leftmost =
-    grind (
-      arith,
-      common_steps,
-      ready-start v.scan stops tape.bytes v.span starts (omega (arith, ordered, may.end_within)),
-    )
+pub may-find-first : (a : AutomatonView) (anchored : Anchored) (stops : Bool) {span : Span} {tape : Taped} {state : ℕ} → MaySearch span tape
+    → span.end ≤ usize_max → span.start ≤ span.end → a.stands anchored state (Some []) → (stops ≡ false → is_leftmost a.built.kind ≡ true)
+    → MayFind (record { scan = scan_of a anchored true; span = span }) stops tape (record { state = state; at = span.start })
+may-find-first a anchored stops {span} {tape} may small ordered starts leftmost =
+    let ready = ready-start (scan_of a anchored true) stops tape.bytes span starts (omega (arith, ordered, may.end_within)) in
+    grind (arith, common_steps, ready)
 
 -- what a find answers that begins there is said of its finder
 pub finds-in : (a : AutomatonView) {anchored : Anchored} {span : Span} {stops : Bool} {tape new_tape : Taped}
     {counts new_counts : Counts} {found : Option Occurrence} {start : Cursor} → start.at ≡ span.start → tape.place ≤ span.start
-    → FindsOn (record { scan = scan_of a anchored true; span = span }) stops start tape counts found new_tape new_counts
-    → FindsIn (finding_of a anchored stops) span tape counts found new_tape new_counts
+    → FindsOn (record { scan = scan_of a anchored true; span = span }) stops (at start tape counts) found (tape_with new_tape new_counts)
+    → FindsIn (finding_of a anchored stops) span (tape_with tape counts) found (tape_with new_tape new_counts)
 finds-in a {anchored} {span} {stops} {tape} {new_tape} {counts} {new_counts} {found} {start} there unread finds =
     let s = scan_of a anchored true in
     record {

@@ -30,6 +30,7 @@ mod ListSteps
 pub mod ListsOf
 pub mod Looks
 pub mod Misses
+pub mod OnwardEnds
 pub mod OnwardGives
 pub mod OnwardGoes
 pub mod OnwardLists

@@ -3,8 +3,9 @@ use Rattle.std.proofs.Common.{◌≡◌, ◌⊎◌, ◌<◌, ℕ, [], IsTrue, �
 use Rattle.std.proofs.lemmas.Bool.{cases_lt, false≢true}
 use Rattle.ac_automaton.specs.Util.{Counts, Node, Occurrence, Taped}
 use Rattle.ac_automaton.specs.Scans.{IsOver}
-use Rattle.ac_automaton.specs.Prelude.{Advances, Cursor, due_in, in_memory, IsAlive, Lists, ListsOn, MayAdvance, MayList, node, PassesNoMatch, Reached, Scan, ScannerView, ScansTo, ScanText, search_through, work_of}
+use Rattle.ac_automaton.specs.Prelude.{Cursor, due_in, in_memory, IsAlive, Lists, ListsOn, MayAdvance, MayList, node, PassesNoMatch, Reached, Scan, ScannerView, ScansTo, ScanText, search_through, work_of}
 use Rattle.ac_automaton.specs.Overlaps.{HasGivenItem, TakesDue}
+use Rattle.ac_automaton.specs.Reads.{Advances, at}
 use Rattle.ac_automaton.proofs.ListLoop.{HasComeOn, come-on, has-moved}
 use Rattle.ac_automaton.proofs.ReadOn.{scans-on}
 
@@ -78,7 +79,7 @@ module _ {v : ScannerView} {start : Reached} {tape : Taped} {counts : Counts} (m
 
         -- so it comes to a state whose matches are all due
         pub lists-next : {there : Cursor} {new_tape : Taped} {new_counts : Counts}
-            → Advances v (cursor_of left) tape_here counts_here there new_tape new_counts
+            → Advances v (at (cursor_of left) tape_here counts_here) (at there new_tape new_counts)
             → ((u : Node) → v.scan.stands there.state u
             → Lists v.scan.built v.scan.anchored u (v.scan.listed there.state)) → {next : Reached}
             → next ≡ record { state = there.state; at = there.at; rest = record { state = there.state; index = 0 } }

@@ -14,7 +14,8 @@ use Rattle.ac_util.proofs.SearchLoop.{step-paid}
 use Rattle.ac_automaton.specs.Prelude.{AutomatonView, Cursor, matches_of, place_of, plain_of, search_of, step_of, Work}
 use Rattle.ac_automaton.specs.Commits.{chain_at, ending_in, IsCommit, reads_on}
 use Rattle.ac_automaton.specs.Cores.{chain_of, first_given, GivesAt, GivesOf, IsGiven, MayTakeFrom, pending, TakesKnown}
-use Rattle.ac_automaton.specs.Onward.{HasCounted, HasGiven, HasStopped, IsCounted, IsOnward, IsRestBefore}
+use Rattle.ac_automaton.specs.Onward.{HasCounted, IsCounted, IsOnward, IsRestBefore}
+use Rattle.ac_automaton.proofs.OnwardEnds.{HasGiven, HasStopped}
 use Rattle.ac_automaton.specs.Reads.{in_hand, tried}
 use Rattle.ac_automaton.specs.Scans.{scan_of}
 use Rattle.ac_automaton.specs.declared.automaton.commits.ChainMatch.{ChainMatch}

@@ -9,7 +9,8 @@ use Rattle.ac_util.proofs.Spans.{text_length}
 use Rattle.ac_automaton.specs.Automata.{Lists}
 use Rattle.ac_automaton.specs.Prelude.{AutomatonView, Cursor, MovesApart, plain_of, Scan, search_of, Work, work_of}
 use Rattle.ac_automaton.specs.Cores.{end_of, FitsBefore, Leaves, GivesAt, GoesBy, IsSearchBy, MayGo, pending, PicksBy, point_of, scan_by, Spot, spot}
-use Rattle.ac_automaton.specs.Onward.{HasGiven, HasStopped, IsOnward, IsOnwardIn, IsRestBefore, reached_by}
+use Rattle.ac_automaton.specs.Onward.{IsOnward, IsOnwardIn, IsRestBefore, reached_by}
+use Rattle.ac_automaton.proofs.OnwardEnds.{HasGiven, HasStopped}
 use Rattle.ac_automaton.specs.Reads.{hand_of, HasReadOn, in_hand, led, MayRead, Point, ReadsOn, ReadsToStop}
 use Rattle.ac_automaton.specs.Scans.{Grows, scan_of}
 use Rattle.ac_automaton.specs.declared.automaton.commits.ChainMatch.{ChainMatch}

@@ -15,7 +15,8 @@ use Rattle.ac_util.proofs.Standing.{Stands-end}
 use Rattle.ac_util.proofs.Walks.{pick-Occurs}
 use Rattle.ac_automaton.specs.Prelude.{AutomatonView, Cursor, plain_of, search_of, Skips, Work}
 use Rattle.ac_automaton.specs.Commits.{reads_on}
-use Rattle.ac_automaton.specs.Onward.{HasGiven, IsCounted, IsOnward}
+use Rattle.ac_automaton.specs.Onward.{IsCounted, IsOnward}
+use Rattle.ac_automaton.proofs.OnwardEnds.{HasGiven}
 use Rattle.ac_automaton.specs.declared.automaton.commits.ChainMatch.{ChainMatch}
 use Rattle.ac_automaton.specs.declared.automaton.onward.ChainRest.{ChainRest}
 use Rattle.ac_automaton.proofs.OnwardLists.{on-leftmost, on-some}

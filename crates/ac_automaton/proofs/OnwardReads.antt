@@ -4,7 +4,8 @@ use Rattle.std.proofs.lemmas.Bool.{false≢true}
 use Rattle.ac_util.specs.Commits.{StandsAfter}
 use Rattle.ac_automaton.specs.Util.{No, Occurrence, Search}
 use Rattle.ac_automaton.specs.Prelude.{AutomatonView, plain_of, Scan, scan_of, search_of, step_of}
-use Rattle.ac_automaton.specs.Onward.{HasCounted, HasStopped, IsOnward, StandsBy}
+use Rattle.ac_automaton.specs.Onward.{HasCounted, IsOnward, StandsBy}
+use Rattle.ac_automaton.proofs.OnwardEnds.{HasStopped}
 use Rattle.ac_automaton.specs.Reads.{Comes, MayRead, Point, ReadsEnough, ReadsOn, StopsAt, tried}
 use Rattle.ac_automaton.proofs.LedWalks.{IsSearchOf, led-after}
 

@@ -2,8 +2,8 @@
 use Rattle.std.proofs.Common.{◌≡◌, ◌≢◌, ◌⊎◌, ℕ, zero, suc, ◌+◌, ◌-◌, ◌*◌, ◌<◌, ◌≤◌, true, List, [], length, inl, inr, subst, sym, refl, ap, ◌∙◌, arith, Option, None, Some, IfSome, slice_index}
 use Rattle.std.proofs.lemmas.Bool.{cases_lt}
 use Rattle.ac_automaton.specs.Util.{Counts, credit, Node, Taped}
-use Rattle.ac_automaton.specs.Prelude.{Advances, Cursor, IsAlive, matches_of, MayAdvance, most_looks, node, PassesNoMatch, Scan, ScannerView, ScansTo, ScanText, step_of, work_of}
-use Rattle.ac_automaton.specs.Reads.{Comes, entered, HasScanned, hand_of, in_hand, led, MayRead, Point, point, read_to, ReadsFurther, ReadsOn, tried, worth}
+use Rattle.ac_automaton.specs.Prelude.{Cursor, IsAlive, matches_of, MayAdvance, most_looks, node, PassesNoMatch, Scan, ScannerView, ScansTo, ScanText, step_of, work_of}
+use Rattle.ac_automaton.specs.Reads.{Comes, entered, HasScanned, hand_of, in_hand, led, MayRead, Point, point, read_to, ReadsFurther, ReadsOn, tried, worth, Advances, at}
 use Rattle.ac_automaton.specs.declared.automaton.scan.Dead.{Dead}
 use Rattle.ac_automaton.proofs.Led.{led-byte, led-dead, led-none}
 use Rattle.ac_automaton.proofs.Looks.{credit-dead, step-within}
@@ -176,12 +176,12 @@ module _ {s : Scan} {end : ℕ} {tape new_tape : Taped} {cursor there : Cursor} 
 pub advances : {v : ScannerView} {tape : Taped} {cursor : Cursor} {counts : Counts} {dead : Option Dead} {there : Cursor}
     {new_tape : Taped} {new_counts : Counts} → (v.scan.most ≡ 1) ⊎ (v.scan.most ≡ 2) → v.scan.stops ≡ true → MayAdvance v tape cursor
     → ReadsFurther v.scan v.span.end (point cursor None tape counts) dead (point there (hand_of dead) new_tape new_counts)
-    → {new_cursor : Cursor} → new_cursor ≡ entered dead there → Advances v cursor tape counts new_cursor new_tape new_counts
+    → {new_cursor : Cursor} → new_cursor ≡ entered dead there → Advances v (at cursor tape counts) (at new_cursor new_tape new_counts)
 advances {v} {tape} {cursor} {counts} {dead} {there} {new_tape} {new_counts} one_or_two stops may further {new_cursor} is =
-    subst (λ (c : Cursor). Advances v cursor tape counts c new_tape new_counts) (sym is) (by dead further)
+    subst (λ (c : Cursor). Advances v (at cursor tape counts) (at c new_tape new_counts)) (sym is) (by dead further)
   where
     by : (d : Option Dead) → ReadsFurther v.scan v.span.end (point cursor None tape counts) d (point there (hand_of d) new_tape new_counts)
-        → Advances v cursor tape counts (entered d there) new_tape new_counts
+        → Advances v (at cursor tape counts) (at (entered d there) new_tape new_counts)
     by None further = let b = may.before_end in record {
       bytes = further.on.bytes;
       moved = further.moved b refl;

@@ -5,7 +5,7 @@ use Rattle.std.proofs.lemmas.Bool.{cases_lt, false≢true}
 use Rattle.std.proofs.lemmas.Grind.{common_steps}
 use Rattle.ac_automaton.specs.Util.{Counts, credit, more_looks, Node}
 use Rattle.ac_automaton.specs.Prelude.{Cursor, Lists, looks_of, matches_of, most_looks, Scan, step_of, Work}
-use Rattle.ac_automaton.specs.Reads.{Comes, HasScanned, hand_of, in_hand, led, MayRead, MovesOn, Point, read_to, ReadsFurther, ReadsOn, ReadsToStop, StopsAt, tried, Tries, worth}
+use Rattle.ac_automaton.specs.Reads.{Comes, HasScanned, hand_of, in_hand, IsReading, led, MayRead, MovesOn, Point, read_to, ReadsEnough, ReadsFurther, ReadsOn, ReadsToStop, StopsAt, tried, Tries, worth}
 use Rattle.ac_automaton.specs.declared.automaton.scan.Dead.{Dead}
 use Rattle.ac_automaton.proofs.Heads.{nil-from_not, nothing-listed}
 use Rattle.ac_automaton.proofs.Led.{led-byte, led-more, led-none}
@@ -232,11 +232,7 @@ module _ {s : Scan} where
       };
     }
 
--- a scan on its way, which has nothing in hand: it doesn't stop where it has come to
-pub record IsReading (s : Scan) (end : ℕ) (p q : Point) : Type 0 where
-  pub on : ReadsOn s end p q
-  pub quiet : p.cursor.at < q.cursor.at → ¬ StopsAt s q.cursor.state
-
+-- a scan on its way, which has nothing in hand
 module _ {s : Scan} {end : ℕ} {p : Point} (may : MayRead s end p) (empty : p.hand ≡ None) where
   -- at first it has read nothing
   pub reading-first : IsReading s end p p
@@ -271,10 +267,29 @@ module _ {s : Scan} {end : ℕ} {p : Point} (may : MayRead s end p) {cursor : Cu
     moves-piece : cursor.at < end → MovesOn end p r
     moves-piece before h none = (let m = piece.moved before none in let o = reading.on.scans.onward in omega arith)
 
+    -- that is a piece from where it began
+    pub piece-then : cursor.at < end → ReadsFurther s end p dead r
+    piece-then before = record { on = reads-piece; moved = moves-piece before; gone = piece.gone }
+
+    -- as far as it reads, where it was so from here on
+    pub stops-then : ReadsEnough s end r → ReadsToStop s end p dead r
+    stops-then enough = record {
+      further = record {
+        on = reads-piece;
+        moved = λ before none. (let a = reading.on.scans.onward in let b = piece.on.scans.onward in
+            elim (cases_lt cursor.at end) [
+              | inl within ↦ (let m = piece.moved within none in omega arith)
+              | inr over ↦ omega arith
+            ]);
+        gone = piece.gone;
+      };
+      enough = enough;
+    }
+
     -- after which it is to stop
     pub stops-piece : cursor.at < end → (dead ≢ None) ⊎ ((end ≤ there.at) ⊎ StopsAt s there.state) → ReadsToStop s end p dead r
     stops-piece before stops = record {
-      further = record { on = reads-piece; moved = moves-piece before; gone = piece.gone };
+      further = piece-then before;
       enough = λ none. by dead none stops;
     }
       where

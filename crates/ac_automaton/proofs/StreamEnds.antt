@@ -2,7 +2,7 @@
 use Rattle.std.proofs.Common.{◌≡◌, ℕ, ◌≤◌, Bool, List, [], ◌++◌, length, sym, subst, arith, Option, Some, None, Result, Ok, Err}
 use Rattle.std.proofs.lemmas.Grind.{common_steps}
 use Rattle.ac_automaton.specs.Util.{Occurrence, Reading, ReadsAll, ReadsSome, Standard, stream_result, StreamError, usize_max}
-use Rattle.ac_automaton.specs.Prelude.{Ended, EndsNow, Failed, GivesLast, GivesMatch, GivesNone, GoesOnBy, HasGivenLast, HasGivenSettled, KeepsGiven, MeetsEnd, Open, Phase, Streaming, StreamsOn}
+use Rattle.ac_automaton.specs.Prelude.{Ended, EndsNow, Failed, GivesLast, GivesMatch, GivesNone, GoesOnBy, HasGivenLast, HasGivenSettled, KeepsGiven, MeetsEnd, Open, Phase, Streaming, Streams}
 use Rattle.ac_automaton.specs.Streams.{GivesNextMatch}
 
 -- the end was met after some bytes more, or before; under Standard all matches were given before it was
@@ -27,7 +27,7 @@ module _ (ends : Bool) (old between new : Streaming) (reader new_reader : Readin
   none-by Failed h done = absurd h
 
   pub gives-last : (result : Option (Result Occurrence StreamError)) → GivesLast between result new
-      → StreamsOn ends old result new reader new_reader
+      → Streams ends (record { stream = old; reader = reader }) result (record { stream = new; reader = new_reader })
   gives-last None done = none-by old.phase reads (ends-now done)
   gives-last (Some (Ok m)) gives = gives-next m gives
   gives-last (Some (Err e)) never = absurd never
@@ -53,5 +53,5 @@ module _ (ends : Bool) (old between searched filled new : Streaming) (reader mid
 
   pub ended-then : length (old.bytes ++ more) ≤ usize_max → KeepsGiven old (old.bytes ++ more)
       → (result : Option (Result Occurrence StreamError)) → GivesLast filled result new
-      → StreamsOn ends old result new reader new_reader
+      → Streams ends (record { stream = old; reader = reader }) result (record { stream = new; reader = new_reader })
   ended-then small keeps = gives-last ends old filled new reader new_reader more filled-is goes-by keeps early small

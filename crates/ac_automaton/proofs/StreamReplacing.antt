@@ -96,9 +96,27 @@ module _ {F D : Type 0} (told : D → Writing)
         bare-made : ReplacementSteps (WritesPiece told) (Calls closures) answer_of_result (take fails.place bytes) 0
             (take fails.given (stream_result built bytes)) (bare first) None (bare t)
         bare-made = bare-steps (take fails.place bytes) 0 (take fails.given (stream_result built bytes)) first t None fails.steps
-    fails-with e (bytes, inr fails, small) =
-        search (
-          rules,
-          bare-steps,
-          bare-steps (take fails.1 bytes) 0 (take fails.0 (stream_result built bytes)) first t (Some e) fails.3,
-        )
+    fails-with e (bytes, inr fails, small) = (
+      bytes,
+      inr (record {
+        given = fails.given;
+        place = fails.place;
+        settled = fails.settled;
+        steps = (
+          t.closure.closure,
+          bare-steps (take fails.place bytes) 0 (take fails.given (stream_result built bytes)) first t (Some e) fails.steps,
+        );
+        first = (let f = fails.first in record {
+          before = f.before;
+          count = f.count;
+          from = f.from;
+          settled = f.settled;
+          between = bare f.between;
+          made = bare-steps (take f.from f.before) 0 (take f.count (stream_result built f.before)) first f.between None f.made;
+          left = t.closure.closure;
+          others = bare-steps (take fails.place bytes) f.from (drop f.count (take fails.given (stream_result built bytes))) f.between t
+              (Some e) f.others;
+        });
+      }),
+      small,
+    )

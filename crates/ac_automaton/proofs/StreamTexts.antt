@@ -2,9 +2,9 @@
 use Rattle.std.proofs.Common.{◌≡◌, ℕ, Bool, List, [], ◌∷◌, ◌++◌, length, take, drop, inl, inr, refl, sym, subst, ◌∙◌, arith, Option, Some, None, Result, Ok, Err, slice_index_or, slice_range, rules}
 use Rattle.std.proofs.lemmas.List.{take_all}
 use Rattle.std.proofs.lemmas.Grind.{common_steps}
-use Rattle.ac_automaton.specs.Util.{Built, FailsToReplace, MatchAnswer, Occurrence, Reading, replaced, replaced_from, ReplacesStream, Replacing, stream_result, StreamError}
-use Rattle.ac_automaton.specs.Prelude.{answer_of_exchange, error_in, FailsBy, Passing, PassesPiece, PassesText, ReplacesBy, Steps}
-use Rattle.ac_automaton.proofs.Gathering.{piece-begun, piece-failed, piece-join}
+use Rattle.ac_automaton.specs.Util.{Built, FailsToReplace, HasWrittenFirst, MatchAnswer, Occurrence, Reading, replaced, replaced_from, ReplacesStream, Replacing, stream_result, StreamError}
+use Rattle.ac_automaton.specs.Prelude.{answer_of_exchange, error_in, FailsBy, HasExchangedFirst, Passing, PassesPiece, PassesText, ReplacesBy, Steps}
+use Rattle.ac_automaton.proofs.Gathering.{piece-begun, piece-failed, piece-join, piece-written}
 
 -- an exchange by texts, which stay as they are
 module _ {E D : Type 0} (passing : Passing E D) (texts : E → List (List ℕ))
@@ -74,6 +74,28 @@ module _ {E D : Type 0} (passing : Passing E D) (texts : E → List (List ℕ))
           text-steps (take (length bytes) bytes) 0 (stream_result built bytes) s t None list same steps,
         )
 
+    -- what was exchanged before the last read was written before it
+    written-first : {bytes : List ℕ} {given place : ℕ} {e : StreamError}
+        → HasExchangedFirst passing exchanges built bytes given place s e t
+        → HasWrittenFirst built list (passing.told s.destination) (passing.told t.destination) bytes
+    written-first {bytes} {given} {place} {e} f =
+        let made = text-steps (take f.from f.before) 0 (take f.count (stream_result built f.before)) s f.between None list same f.made in
+        let later = piece-failed passing (replaced_from (take place bytes) list f.from (drop f.count (take given (stream_result built bytes))))
+        f.between t e f.clear
+        (text-steps (take place bytes) f.from (drop f.count (take given (stream_result built bytes))) f.between t (Some e) list
+        (piece-texts (replaced_from (take f.from f.before) list 0 (take f.count (stream_result built f.before))) s f.between None made ∙ same) f.others) in
+        record {
+          before = f.before;
+          given = f.count;
+          place = f.from;
+          settled = f.settled;
+          between = passing.told f.between.destination;
+          written = piece-written passing (replaced_from (take f.from f.before) list 0 (take f.count (stream_result built f.before))) s f.between
+              begins f.clear made;
+          more = later.2.some.part;
+          later = later.2.some.moved;
+        }
+
     pub fails-by : (e : StreamError) → FailsBy passing exchanges ends built reader new_reader s e t
         → FailsToReplace built list (passing.told s.destination) (passing.told t.destination) ends reader new_reader e
     fails-by e (bytes, inl fails, small) =
@@ -82,14 +104,18 @@ module _ {E D : Type 0} (passing : Passing E D) (texts : E → List (List ℕ))
           common_steps,
           text-steps (take fails.place bytes) 0 (take fails.given (stream_result built bytes)) s t None list same fails.steps,
         )
-    fails-by e (bytes, inr (given, place, settled, steps), small) = (
-      bytes,
-      inr (
-        given,
-        place,
-        settled,
-        piece-failed passing (replaced (take place bytes) list (take given (stream_result built bytes))) s t e begins
-            (text-steps (take place bytes) 0 (take given (stream_result built bytes)) s t (Some e) list same steps),
-      ),
-      small,
-    )
+    fails-by e (bytes, inr fails, small) =
+        let failed = piece-failed passing (replaced (take fails.place bytes) list (take fails.given (stream_result built bytes))) s t e begins
+        (text-steps (take fails.place bytes) 0 (take fails.given (stream_result built bytes)) s t (Some e) list same fails.steps) in (
+          bytes,
+          inr (record {
+            given = fails.given;
+            place = fails.place;
+            settled = fails.settled;
+            failure = failed.0;
+            is = failed.1;
+            writes = failed.2;
+            first = written-first fails.first;
+          }),
+          small,
+        )

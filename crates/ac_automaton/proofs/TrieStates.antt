@@ -1,16 +1,46 @@
 -- What the number of a trie's state says of the node that it stands for.
-use Rattle.std.proofs.Common.{◌≡◌, ◌≢◌, ◌⊎◌, ◌↔◌, ℕ, zero, suc, ◌≤◌, ◌<◌, List, [], length, drop, get_or, ap, ◌∙◌, arith, Option, Some, None, IfSome, rules}
+use Rattle.std.proofs.Common.{◌≡◌, ◌≢◌, ◌⊎◌, ◌↔◌, ℕ, zero, suc, ◌≤◌, ◌<◌, List, [], length, drop, get_or, ap, ◌∙◌, arith, Option, Some, None, IfSome, slice_get, rules}
 use Rattle.std.proofs.lemmas.Bool.{cases_lt}
 use Rattle.std.proofs.lemmas.Option.{slice_get_within}
 use Rattle.std.proofs.lemmas.Grind.{common_steps}
 use Rattle.ac_util.specs.Node.{Node, depth}
-use Rattle.ac_automaton.specs.Prelude.{all_matches, DEAD, FIRST_INNER, HasState, IsState, IsTrie, IsTrieState, listed_within, MatchRest, TrieView, meaning_of, Represents, START, State, Takes, TakesFrom, Trie}
+use Rattle.ac_automaton.specs.Prelude.{all_matches, AreAllStates, DEAD, FIRST_INNER, HasState, IsState, IsTrie, IsTrieState, listed_within, MatchRest, TrieView, meaning_of, Represents, START, State, Takes, TakesFrom, Trie}
 use Rattle.ac_automaton.proofs.Follows.{represented}
 use Rattle.ac_automaton.proofs.ListsOf.{length-listed, none-linked}
 
 -- a list with elements is not empty
 not_nil-length : (xs : List ℕ) → 0 < length xs → xs ≢ []
 not_nil-length xs h e = omega (arith, ap (length {A = ℕ}) e)
+
+module _ {g : TrieView} {states : List State} (all : AreAllStates g states) (s : ℕ) (u : Node) (named : slice_get g.nodes s ≡ Some u)
+  where
+    -- one of the states stands for the node
+    pub number-state : HasState g states s u
+    number-state = record {
+      meant = all.meant;
+      there = omega (arith, slice_get_within g.nodes s u named, all.whole);
+      named = named;
+    }
+
+    -- an inner number is that of a longer string
+    deep : FIRST_INNER ≤ s → 0 < depth u
+    deep large = (all.meant.each s u number-state.there named).inner large
+
+    -- and those before are the dead node and the start
+    shallow : (n : ℕ) → n ≡ s → n < FIRST_INNER → ((n < START) × (u ≡ None)) ⊎ ((START ≤ n) × (u ≡ Some []))
+    shallow zero e small = grind (arith, common_steps)
+    shallow (suc zero) e small = grind (arith, common_steps)
+    shallow (suc (suc zero)) e small = grind (arith, common_steps)
+    shallow (suc (suc (suc zero))) e small = grind (arith, common_steps)
+    shallow (suc (suc (suc (suc n)))) e small = absurd (omega arith)
+
+    -- the numbers below 2 are those of the dead node
+    pub dead-number : s < START ↔ (u ≡ None)
+    dead-number = search (rules, cases_lt, deep, shallow)
+
+    -- 2 and 3 are those of the start
+    pub start-number : ((START ≤ s) × (s < FIRST_INNER)) ↔ (u ≡ Some [])
+    start-number = search (rules, cases_lt, deep, shallow)
 
 module _ (trie : Trie) (s : ℕ) (u : Node) (h : IsTrieState trie s u) where
   -- what the numbers mean
@@ -19,31 +49,11 @@ module _ (trie : Trie) (s : ℕ) (u : Node) (h : IsTrieState trie s u) where
 
   -- one of the states stands for the node
   pub has-state : HasState meaning trie.states s u
-  has-state = search (rules, slice_get_within)
+  has-state = number-state h.is_trie.states s u h.named
 
   -- the list of the state has the matches of the node
   pub listed-matches : listed_within trie.order trie.states s s ≡ all_matches meaning u
   listed-matches = h.is_trie.lists s u h.named
-
-  -- an inner number is that of a longer string
-  deep : FIRST_INNER ≤ s → 0 < depth u
-  deep large = (h.is_trie.states.each s u has-state.there h.named).inner large
-
-  -- and those before are the dead node and the start
-  shallow : (n : ℕ) → n ≡ s → n < FIRST_INNER → ((n < START) × (u ≡ None)) ⊎ ((START ≤ n) × (u ≡ Some []))
-  shallow zero e small = grind (arith, common_steps)
-  shallow (suc zero) e small = grind (arith, common_steps)
-  shallow (suc (suc zero)) e small = grind (arith, common_steps)
-  shallow (suc (suc (suc zero))) e small = grind (arith, common_steps)
-  shallow (suc (suc (suc (suc n)))) e small = absurd (omega arith)
-
-  -- the numbers below 2 are those of the dead node
-  pub dead-number : s < START ↔ (u ≡ None)
-  dead-number = search (rules, cases_lt, deep, shallow)
-
-  -- 2 and 3 are those of the start
-  pub start-number : ((START ≤ s) × (s < FIRST_INNER)) ↔ (u ≡ Some [])
-  start-number = search (rules, cases_lt, deep, shallow)
 
   module _ (t : State) (is : t ≡ get_or trie.states s t) where
     -- what the state that was read says of the node

@@ -14,7 +14,8 @@ use Rattle.ac_automaton.specs.Commits.{reads_on}
 use Rattle.ac_automaton.specs.Iterators.{first_work, reads_past_by}
 use Rattle.ac_automaton.specs.Reads.{in_hand}
 use Rattle.ac_automaton.specs.Cores.{GoesBy, MayGo, pending, spot}
-use Rattle.ac_automaton.specs.Onward.{BeginsPast, HasGiven, IsCounted, IsKept, IsOnward, IsOnwardIn, IsReadingPast, IsRestBefore, kept_work, reached_by}
+use Rattle.ac_automaton.specs.Onward.{BeginsPast, IsCounted, IsKept, IsOnward, IsOnwardIn, IsReadingPast, IsRestBefore, kept_work, reached_by}
+use Rattle.ac_automaton.proofs.OnwardEnds.{HasGiven}
 use Rattle.ac_automaton.specs.declared.automaton.onward.ChainRest.{ChainRest}
 use Rattle.ac_automaton.specs.declared.automaton.onward.Onward.{Onward}
 use Rattle.ac_automaton.specs.declared.automaton.onward.Position.{Position}

@@ -13,7 +13,7 @@ use Rattle.ac_util.proofs.Shortest.{shortest-least}
 use Rattle.ac_automaton.specs.declared.automaton.commits.ChainMatch.{ChainMatch}
 use Rattle.ac_automaton.specs.declared.automaton.commits.Commit.{Commit}
 use Rattle.ac_automaton.specs.Commits.{AreCommits, chain_at, ending_in, IsCommit, reads_on}
-use Rattle.ac_automaton.specs.Committing.{ending_by, HasCommit, IsMade, Made, MeansWhole}
+use Rattle.ac_automaton.specs.Committing.{AreMade, ending_by, HasCommit, IsMade, Made, MayCommit}
 use Rattle.ac_automaton.specs.Prelude.{IsTrie, meaning_of, plain_of, Trie, TrieView}
 use Rattle.ac_automaton.specs.Tries.{automaton_of}
 use Rattle.ac_automaton.proofs.Committing.{holds-none}
@@ -35,17 +35,10 @@ placed-same built (m ∷ chain) =
     ∙ ap (λ (os : List _). ending_in built m ∷ os) (placed-same built chain)
 
 module _ (trie : Trie) (reads : reads_on trie.built ≡ true) where
-  -- what the numbers mean, where walks read on
-  pub trie-means : (nodes : List Node) → IsTrie trie nodes → MeansWhole (meaning_of trie nodes) trie.states
-  trie-means nodes is = record {
-    meant = is.states;
-    whole = is.whole;
-    few = is.few;
-    unreached = is.unreached;
-    start = is.start;
-    anchored_start = is.anchored_start;
-    numbered = is.numbered;
-    rising = is.rising;
+  -- the states may have commits, where walks read on
+  pub trie-may : (nodes : List Node) → IsTrie trie nodes → MayCommit (meaning_of trie nodes) trie.states
+  trie-may nodes is = record {
+    all = is.states;
     leftmost = (and_parts (is_leftmost trie.built.kind) (nat_lt 0 (shortest_len trie.built.patterns)) reads).0;
     some = λ n within.
         let least = shortest-least trie.built.patterns n
@@ -88,24 +81,25 @@ module _ (trie : Trie) (reads : reads_on trie.built ≡ true) where
           let before = Contains-permutation commits m.commits commit (IsPermutation-sym m.commits commits same) has in
           let made = all stands.nodes stands.is_trie in
           commit-of stands.nodes stands.is_trie u commit
-          (made.each before.0 commit
+          (made.are.each before.0 commit
           (slice_get_read m.commits (length m.commits) before.0 commit refl before.1 (sym before.2)) u stands.named);
       all = λ s u stands none others.
           let made = all stands.nodes stands.is_trie in
           let within = slice_get_within stands.nodes s (Some u) stands.named in
-          holds-none (trie-means stands.nodes stands.is_trie) made s (omega arith) u stands.named
-          (empty s made others) (sym (stands.is_trie.lists s (Some u) stands.named) ∙ none);
+          holds-none (trie-may stands.nodes stands.is_trie) s u (λ p t w b less. made.done p t w b (omega arith)) stands.named
+          (record { empty = empty s made.are others; matchless = sym (stands.is_trie.lists s (Some u) stands.named) ∙ none });
     }
       where
-        empty : (s : ℕ) {g : TrieView} {n : ℕ} → IsMade g m n
+        empty : (s : ℕ) {g : TrieView} → AreMade g m
             → ((commit : Commit) → Contains commits commit → commit.state ≢ s) → get_or m.index s 0 ≡ 0
         empty s made others = elim (cases_lt 0 (get_or m.index s 0)) [
           | inl some ↦
               let at = made.placed s (λ none. omega arith) in
-              absurd (others at.0 (Contains-permutation m.commits commits at.0 same (
-                get_or m.index s 0 - 1,
-                slice_get_within m.commits (get_or m.index s 0 - 1) at.0 at.1,
-                get_or_from_slice_get m.commits (get_or m.index s 0 - 1) at.0 at.0 at.1,
-              )) at.2)
+              let place = get_or m.index s 0 - 1 in
+              absurd (others at.commit (Contains-permutation m.commits commits at.commit same (
+                place,
+                slice_get_within m.commits place at.commit at.there,
+                get_or_from_slice_get m.commits place at.commit at.commit at.there,
+              )) at.state)
           | inr none ↦ omega arith
         ]

@@ -163,14 +163,16 @@ module _ (texts : List (List ℕ)) {ignores_case : Bool} {kind : MatchKind} {sor
       let named = length-map queue (λ (q : QueuedState). Some (word sorted q)) in
       record {
         both = refl;
-        states = h.meant;
-        whole = omega (arith, counted);
-        few = omega (arith, h.grown.few);
-        unreached = refl;
-        start = refl;
-        anchored_start = refl;
-        numbered = numbered;
-        rising = nodes-rising h.grown;
+        states = record {
+          meant = h.meant;
+          whole = omega (arith, counted);
+          few = omega (arith, h.grown.few);
+          unreached = refl;
+          start = refl;
+          anchored_start = refl;
+          numbered = numbered;
+          rising = nodes-rising h.grown;
+        };
         lists = λ s v e.
             listed_within-matches
             (grown_view kind ignores_case (map (plain ignores_case) texts) sorted transitions queue) states s s v

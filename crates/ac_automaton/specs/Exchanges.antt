@@ -1,6 +1,6 @@
 -- What the replacement of a stream gathers before it writes, and what it has done so far.
-use Rattle.std.specs.Prelude.{◌≡◌, ℕ, List, [], ◌++◌, MatchResult, Option, None, Result, Some, ◌⊎◌, ◌<◌, ◌≤◌, Bool, Ok, Err, length, slice_index_or, take}
-use Rattle.ac_automaton.specs.Util.{error_of, Replacing, StreamError, WriteError, WritesAll, WritesUntilFailure, Writing, Answer, Built, Calls, Fails, FailsToRead, Continues, IsNear, IsSettled, IsSettledBy, Occurrence, Reading, ReadsAll, ReplacementSteps, StartFrom, stream_result, usize_max}
+use Rattle.std.specs.Prelude.{◌≡◌, ℕ, List, [], ◌++◌, MatchResult, Option, None, Result, Some, ◌⊎◌, ◌<◌, ◌≤◌, Bool, Ok, Err, length, slice_index_or, take, drop}
+use Rattle.ac_automaton.specs.Util.{error_of, Replacing, StreamError, WriteError, WritesAll, WritesUntilFailure, Writing, Answer, Built, Calls, Fails, FailsToRead, Continues, IsNear, IsSettled, IsSettledBefore, IsSettledBy, Occurrence, Reading, ReadsAll, ReplacementSteps, StartFrom, stream_result, usize_max}
 use Rattle.ac_automaton.specs.declared.automaton.stream_replace.ByTexts.{ByTexts}
 use Rattle.std.specs.Borrow.{Bor, MutBor}
 use Rattle.std.specs.Fn.{Mut}
@@ -95,13 +95,15 @@ module _ {E D : Type 0} (passing : Passing E D)
   abbrev pub Steps : List ℕ → ℕ → List Occurrence → Replacing E D → Option StreamError → Replacing E D → Type 0
   Steps haystack place ms s end t = ReplacementSteps (PassesPiece passing) calls answer_of_exchange haystack place ms s end t
 
-  -- the matches given so far were exchanged, and what isn't kept any more was passed on: in any haystack that begins as
-  -- the stream does, steps from there on are the last of steps from the start
-  pub record HasReplaced (v : Streaming) (first s : Replacing E D) : Type 0 where
+  -- after so many matches and from an offset on, the matches given since were exchanged, and what isn't kept any more was passed on:
+  -- in any haystack that begins as the stream does, steps from there on are the last of steps from that offset
+  pub record HasReplaced (count from : ℕ) (v : Streaming) (first s : Replacing E D) : Type 0 where
+    pub counted : count ≤ v.given
+    pub begun : from ≤ v.kept
     pub steps : (haystack : List ℕ) → take v.kept haystack ≡ take v.kept v.bytes
         → (ms : List Occurrence) → StartFrom v.kept ms → (end : Option StreamError) (t : Replacing E D)
         → Steps haystack v.kept ms s end t
-        → Steps haystack 0 (take v.given (matches_so_far v) ++ ms) first end t
+        → Steps haystack from (drop count (take v.given (matches_so_far v)) ++ ms) first end t
 
   -- all matches of what was read that are settled were exchanged, and all that is settled was written, so that nothing is held
   -- back: whatever was done before
@@ -111,14 +113,15 @@ module _ {E D : Type 0} (passing : Passing E D)
     pub within : new.kept ≤ length new.bytes
     pub same : new ≡ record old { given = new.given; kept = new.kept }
     pub clear : passing.held t.closure ≡ []
-    pub replaced : (first : Replacing E D) → HasReplaced old first s → HasReplaced new first t
+    pub replaced : (count from : ℕ) (first : Replacing E D) → HasReplaced count from old first s → HasReplaced count from new first t
 
-  -- a write, or an exchange, has failed: the steps were made up to it
-  abbrev pub FailsToExchange : Streaming → Replacing E D → StreamError → Replacing E D → Type 0
-  FailsToExchange old s e t =
-      (first : Replacing E D) → HasReplaced old first s
-      → (given place : ℕ) × IsSettledIn old.phase old.built old.bytes given place
-      × Steps (take place old.bytes) 0 (take given (matches_so_far old)) first (Some e) t
+  -- a write, or an exchange, has failed: the steps were made up to it, wherever they began
+  pub record FailsToExchange (old : Streaming) (s : Replacing E D) (e : StreamError) (t : Replacing E D) : Type 0 where
+    pub given : ℕ
+    pub place : ℕ
+    pub settled : IsSettledIn old.phase old.built old.bytes given place
+    pub steps : (count from : ℕ) (first : Replacing E D) → HasReplaced count from old first s
+        → Steps (take place old.bytes) from (drop count (take given (matches_so_far old))) first (Some e) t
 
   -- the exchange of what was read has answered
   abbrev pub ExchangesRead : Streaming → Streaming → Replacing E D → Replacing E D → Result (Unit {0}) StreamError → Type 0
@@ -142,13 +145,33 @@ module _ {E D : Type 0} (passing : Passing E D)
     pub clear : passing.held t.closure ≡ []
     pub steps : Steps (take place bytes) 0 (take given (stream_result built bytes)) s None t
 
-  -- that; or a write, or an exchange, has failed: no step was made after that. usize counts what was read
+  -- before the last read the steps were made as far as the stream was settled then, and nothing was held back; the others have
+  -- ended with an error
+  pub record HasExchangedFirst (built : Built) (bytes : List ℕ) (given place : ℕ) (s : Replacing E D) (e : StreamError)
+      (t : Replacing E D) : Type 0 where
+    pub before : List ℕ
+    pub count : ℕ
+    pub from : ℕ
+    pub settled : IsSettledBefore built bytes before count from
+    pub between : Replacing E D
+    pub clear : passing.held between.closure ≡ []
+    pub made : Steps (take from before) 0 (take count (stream_result built before)) s None between
+    pub others : Steps (take place bytes) from (drop count (take given (stream_result built bytes))) between (Some e) t
+
+  -- a write, or an exchange, has failed: no step was made after that, and nothing was read
+  pub record FailsAtExchange (ends : Bool) (built : Built) (reader new_reader : Reading) (s : Replacing E D) (e : StreamError)
+      (t : Replacing E D) (bytes : List ℕ) : Type 0 where
+    pub given : ℕ
+    pub place : ℕ
+    pub settled : IsSettled ends built reader new_reader bytes given place
+    pub steps : Steps (take place bytes) 0 (take given (stream_result built bytes)) s (Some e) t
+    pub first : HasExchangedFirst built bytes given place s e t
+
+  -- one of the two; and usize counts what was read
   abbrev pub FailsBy : Bool → Built → Reading → Reading → Replacing E D → StreamError → Replacing E D → Type 0
   FailsBy ends built reader new_reader s e t =
       (bytes : List ℕ)
-      × (FailsAtRead built reader new_reader s e t bytes
-      ⊎ ((given place : ℕ) × IsSettled ends built reader new_reader bytes given place
-      × Steps (take place bytes) 0 (take given (stream_result built bytes)) s (Some e) t))
+      × (FailsAtRead built reader new_reader s e t bytes ⊎ FailsAtExchange ends built reader new_reader s e t bytes)
       × (length bytes ≤ usize_max)
 
   -- the replacement of a stream has answered

@@ -1,10 +1,10 @@
 -- By which order a find picks, what it answers, and when it has read enough.
 use Rattle.std.specs.Prelude.{ℕ, Bool, ◌≡◌, ◌≢◌, ◌⊎◌, ◌↔◌, IsTrue, ◌+◌, ◌-◌, ◌≤◌, false, true, List, Option, None, IfSome, option_map, slice_get, length, max, nat_lt}
 use Rattle.ac_util.specs.declared.search.Anchored.{Anchored}
-use Rattle.ac_automaton.specs.Util.{Built, find_result, MatchKind, order_of, InputView, Counts, depth, is_leftmost, may_skip, No, Node, Occurrence, occurrence, pattern_of, pick, Search, shortest_len, Span, Standard, Taped, usize_max, Yes}
+use Rattle.ac_automaton.specs.Util.{Built, find_result, MatchKind, order_of, InputView, depth, may_skip, No, Node, Occurrence, occurrence, pattern_of, pick, Search, shortest_len, Span, Standard, Taped, usize_max, Yes}
 use Rattle.ac_automaton.specs.Automata.{AutomatonView, matches_of}
 use Rattle.ac_automaton.specs.declared.automaton.scan.Cursor.{Cursor}
-use Rattle.ac_automaton.specs.Scans.{HasRead, StopsAtDead, Work, most_looks, node_at, search_of, work_of, IsAt, Scan, ScannerView, ScansTo, ScanText, in_memory, node, search_through}
+use Rattle.ac_automaton.specs.Scans.{HasRead, StopsAtDead, Work, most_looks, node_at, search_of, ScannerView, WorkedTape}
 
 -- how finds are made: the kind of their automaton, and the order by which they pick; how many looks it may take for each
 -- byte where it isn't anchored, and whether it was built to have a prefilter
@@ -100,16 +100,6 @@ FindsAt v cursor found =
     (u : Node) → v.scan.stands cursor.state u → FitsIn v.scan.anchored u v.span.start cursor.at
     → found ≡ found_at v.scan.built v.scan.anchored u cursor.at
 
--- how a scan's finds are made that stop at the first match, or not
-abbrev pub picking_by : Scan → Bool → Picking
-picking_by s stops = picking_of s.most s.built.kind s.wants_prefilter stops
-
--- a find may read on from here: of the text so far it picks what the node finds
-pub record IsReady (s : Scan) (t : ScanText) (stops : Bool) (cursor : Cursor) : Type 0 where
-  pub is_at : IsAt s t cursor.state cursor.at
-  pub picked : found_at s.built s.anchored (node s t cursor.at) cursor.at
-      ≡ pick (order_of s.built.kind stops) (record (search_through s t) { high = cursor.at })
-
 -- a find that has come to a node has its answer in the last match found: nothing is left to read, nothing more is
 -- found, or it stops at the first match and has one
 abbrev pub IsAnswered : Bool → ℕ → ℕ → Node → Option Occurrence → Type 0
@@ -119,24 +109,6 @@ IsAnswered stops end at u last = (end ≤ at) ⊎ ((u ≡ None) ⊎ ((stops ≡ 
 abbrev pub TellsAnswer : ScannerView → Bool → Cursor → Option Occurrence → Bool → Type 0
 TellsAnswer v stops cursor last result =
     (u : Node) → v.scan.stands cursor.state u → IsTrue result ↔ IsAnswered stops v.span.end cursor.at u last
-
--- a find that stops at the first match, or not, may read on from a cursor within its span
-pub record MayFind (v : ScannerView) (stops : Bool) (tape : Taped) (cursor : Cursor) : Type 0 where
-  pub leftmost : stops ≡ false → is_leftmost v.scan.built.kind ≡ true
-  pub within : cursor.at ≤ v.span.end
-  pub inside : v.span.end ≤ length tape.bytes
-  pub unread : tape.place ≤ cursor.at
-  pub small : v.span.end ≤ usize_max
-  pub ready : IsReady v.scan (in_memory tape.bytes v.span) stops cursor
-
--- it has answered, whatever was done before the cursor
-pub record FindsOn (v : ScannerView) (stops : Bool) (cursor : Cursor) (tape : Taped) (counts : Counts)
-    (found : Option Occurrence) (new_tape : Taped) (new_counts : Counts) : Type 0 where
-  pub bytes : new_tape.bytes ≡ tape.bytes
-  pub searched : (begun : Work)
-      → ScansTo v.scan (in_memory tape.bytes v.span) v.span.start begun cursor.at (work_of tape counts)
-      → HasSearched (picking_by v.scan stops) (search_through v.scan (in_memory tape.bytes v.span)) found begun
-      (work_of new_tape new_counts)
 
 -- the span from one offset to another
 abbrev pub between : ℕ → ℕ → Span
@@ -150,9 +122,7 @@ pub record MaySearch (span : Span) (tape : Taped) : Type 0 where
   pub unread : tape.place ≤ span.start
 
 -- a finder has made a find in a span of a tape
-pub record FindsIn (finder : Finding) (span : Span) (tape : Taped) (counts : Counts) (found : Option Occurrence)
-    (new_tape : Taped) (new_counts : Counts) : Type 0 where
+pub record FindsIn (finder : Finding) (span : Span) (p : WorkedTape) (found : Option Occurrence) (q : WorkedTape) : Type 0 where
   pub searched : HasSearched finder.picking
-      (search_of finder.built finder.anchored tape.bytes span.start span.end) found
-      (work_of tape counts) (work_of new_tape new_counts)
-  pub bytes : new_tape.bytes ≡ tape.bytes
+      (search_of finder.built finder.anchored p.bytes span.start span.end) found p.work q.work
+  pub bytes : q.bytes ≡ p.bytes

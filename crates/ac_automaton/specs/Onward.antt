@@ -1,17 +1,17 @@
 -- What a leftmost walk has come to that reads each byte once, and what it has counted.
-use Rattle.std.specs.Prelude.{◌≡◌, ℕ, ◌+◌, ◌-◌, ◌*◌, ◌<◌, ◌≤◌, Bool, false, List, [], length, slice_index, Option, None, Some, IfSome, MatchOption}
-use Rattle.ac_automaton.specs.Util.{Counts, credit, from, may_skip, No, Occurrence, pick, Search, Span, Taped}
+use Rattle.std.specs.Prelude.{◌≡◌, ℕ, ◌+◌, ◌-◌, ◌*◌, ◌<◌, ◌≤◌, Bool, false, List, length, slice_index, Option, None, Some, IfSome, MatchOption}
+use Rattle.ac_automaton.specs.Util.{Counts, credit, may_skip, No, Occurrence, Search, Span, Taped}
 use Rattle.ac_automaton.specs.declared.automaton.commits.ChainMatch.{ChainMatch}
 use Rattle.ac_automaton.specs.declared.automaton.onward.ChainRest.{ChainRest}
 use Rattle.ac_automaton.specs.declared.automaton.onward.Onward.{Onward}
 use Rattle.ac_automaton.specs.declared.automaton.onward.Position.{Position}
 use Rattle.ac_automaton.specs.declared.automaton.scan.Cursor.{Cursor}
-use Rattle.ac_automaton.specs.Automata.{AutomatonView, plain_of, step_of}
+use Rattle.ac_automaton.specs.Automata.{AutomatonView, plain_of}
 use Rattle.ac_automaton.specs.Finds.{Finding, finding_of}
 use Rattle.ac_automaton.specs.Iterators.{IsByFinds, IsPaid, reads_past_by, walking_of}
 use Rattle.ac_util.specs.Commits.{StandsAfter}
-use Rattle.ac_automaton.specs.Reads.{in_hand, tried}
-use Rattle.ac_automaton.specs.Scans.{scan_of, search_of, Work, work_of}
+use Rattle.ac_automaton.specs.Reads.{in_hand}
+use Rattle.ac_automaton.specs.Scans.{search_of, Work, work_of}
 use Rattle.ac_automaton.specs.Cores.{pending, chains, IsSearchBy}
 
 -- what a walk has counted that began at `start` and has come to an offset: it has read no byte twice, and each one unless it called
@@ -48,15 +48,6 @@ module _ (a : AutomatonView) (q : Search) (start : ℕ) where
     pub begun : start ≤ q.low
     pub ordered : q.low ≤ q.high
 
-  -- it reads on no further: the byte in hand leads to the dead node, or the span is read to its end
-  pub record HasStopped (cursor : Cursor) (byte : Option ℕ) (work : Work) : Type 0 where
-    pub node : List ℕ
-    pub stands : StandsBy [] cursor byte node
-    pub over : MatchOption byte (cursor.at ≡ q.high) (λ b. step_of a.built No (Some node) b ≡ None)
-    pub counted : HasCounted cursor byte node (tried (scan_of a No false) node byte) work.counts
-    pub unread : work.place ≤ cursor.at + in_hand byte
-    pub begun : start ≤ q.low
-
 -- the walk over a span of a tape that ends here
 abbrev pub IsOnwardIn : AutomatonView → Taped → ℕ → ℕ → ℕ → List Occurrence → Cursor → Option ℕ → Counts → Type 0
 IsOnwardIn a tape low end start ms cursor byte counts =
@@ -65,17 +56,6 @@ IsOnwardIn a tape low end start ms cursor byte counts =
 -- the rest of a chain has a number, and no more of it was given than there are bytes before an offset
 abbrev pub IsRestBefore : List (List ChainMatch) → ℕ → Option ChainRest → Type 0
 IsRestBefore chains low rest = IfSome rest (λ r. (r.chain < length chains) × (r.index ≤ low))
-
--- a walk has given the pick of its search, and goes on after it; or there is none, and it has read the span
-pub record HasGiven (a : AutomatonView) (chains : List (List ChainMatch)) (q : Search) (start : ℕ) (found : Option Occurrence)
-    (rest : Option ChainRest) (cursor : Cursor) (byte : Option ℕ) (work : Work) : Type 0 where
-  pub answer : found ≡ pick a.built.kind q
-  pub place : work.place ≤ q.high
-  pub looks : work.counts.looks ≤ a.most * work.counts.reads + (q.low - start)
-  pub goes : MatchOption found
-      (IsCounted a.most (may_skip a.wants_prefilter q) start q.high 0 (q.low - start) work.counts)
-      (λ m. IsRestBefore chains m.end rest
-      × IsOnward a (from q m.end) start (pending a.built chains rest) cursor byte work)
 
 -- up to where a walk has read: the offset of its cursor, and the byte in hand
 abbrev pub reached_by : Position → ℕ

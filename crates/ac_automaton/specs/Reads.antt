@@ -7,7 +7,7 @@ use Rattle.ac_automaton.specs.declared.automaton.scan.Dead.{Dead}
 use Rattle.ac_automaton.specs.declared.automaton.scan.Scanner.{Scanner}
 use Rattle.ac_automaton.specs.declared.automaton.skip.ToStart.{ToStart}
 use Rattle.ac_automaton.specs.declared.automaton.skip.ToStart.TheVariants.{Stopped, There}
-use Rattle.ac_automaton.specs.Scans.{Grows, most_looks, Scan, scanner, search_of, Work, work_of}
+use Rattle.ac_automaton.specs.Scans.{Grows, IsAlive, most_looks, PassesNoMatch, Scan, scanner, ScannerView, ScanText, search_of, Work, work_of}
 
 -- how many bytes are in hand
 abbrev pub in_hand : Option ℕ → ℕ
@@ -104,6 +104,11 @@ pub record HasReadOn (s : Scan) (end : ℕ) (p q : Point) : Type 0 where
   pub on : ReadsOn s end p q
   pub enough : ReadsEnough s end q
 
+-- a scan on its way: it isn't to stop where it has come to
+pub record IsReading (s : Scan) (end : ℕ) (p q : Point) : Type 0 where
+  pub on : ReadsOn s end p q
+  pub quiet : p.cursor.at < q.cursor.at → StopsAt s q.cursor.state → ⊥
+
 -- a byte was tried at a point: the one in hand, or the next one, which was read; it leads to a state
 pub record Tries (s : Scan) (p : Point) (byte next : ℕ) (work : Work) : Type 0 where
   pub is : byte ≡ slice_index p.bytes p.cursor.at
@@ -145,9 +150,15 @@ abbrev pub hand_at : ToStart → Option ℕ
 hand_at There = None
 hand_at (Stopped dead) = hand_of dead
 
--- it has come there, with a byte left; or it has read as far as it reads
+-- it has come there with a byte left, by states at which it isn't to stop
+pub record ComesToStart (s : Scan) (end : ℕ) (p q : Point) : Type 0 where
+  pub reading : IsReading s end p q
+  pub before : q.cursor.at < end
+  pub at_start : IsAtStart s q.cursor.state
+
+-- that; or it has read as far as it reads
 abbrev pub ReadsToStart : Scan → ℕ → Point → ToStart → Point → Type 0
-ReadsToStart s end p There q = ReadsOn s end p q × (q.cursor.at < end) × IsAtStart s q.cursor.state
+ReadsToStart s end p There q = ComesToStart s end p q
 ReadsToStart s end p (Stopped dead) q = ReadsToStop s end p dead q
 
 -- a cursor that has followed the byte which leads to the dead state, if one was read
@@ -158,6 +169,14 @@ entered (Some dead) cursor = dead.next
 -- a point with nothing in hand
 abbrev pub at : Cursor → Taped → Counts → Point
 at cursor tape counts = point cursor None tape counts
+
+-- a scanner has read on within its span, by a byte at least: whichever text has led to where it began, it has passed over no match
+pub record Advances (v : ScannerView) (p q : Point) : Type 0 where
+  pub bytes : q.bytes ≡ p.bytes
+  pub moved : p.cursor.at < q.cursor.at
+  pub within : q.cursor.at ≤ v.span.end
+  pub passes : (t : ScanText) → t.bytes ≡ p.bytes → IsAlive v.scan t p.cursor
+      → PassesNoMatch v.scan t p.cursor.at p.work q.cursor q.work
 
 -- a scanner reads within its span
 module _ {A M : Type 0} (seen : A → AutomatonView) (s : Scanner A M) where
@@ -180,3 +199,7 @@ module _ {A M : Type 0} (seen : A → AutomatonView) (s : Scanner A M) where
   -- or to its start
   abbrev pub Seeks : Point → ToStart → Point → Type 0
   Seeks p stop q = ReadsToStart (scanner seen s).scan s.span.end p stop (record q { hand = hand_at stop })
+
+  -- it reads on by a byte at least, and passes over no match
+  abbrev pub GoesAhead : Point → Point → Type 0
+  GoesAhead p q = Advances (scanner seen s) p q

@@ -54,6 +54,14 @@ pub record Work : Type 0 where
 abbrev pub work_of : Taped → Counts → Work
 work_of tape counts = record { place = tape.place; counts = counts }
 
+-- the bytes of a tape, and the work done on it
+pub record WorkedTape : Type 0 where
+  pub bytes : List ℕ
+  pub work : Work
+
+abbrev pub tape_with : Taped → Counts → WorkedTape
+tape_with tape counts = record { bytes = tape.bytes; work = work_of tape counts }
+
 -- nothing was read or counted
 abbrev pub nothing_done : Work
 nothing_done = record { place = 0; counts = no_counts }
@@ -172,15 +180,6 @@ pub record MayAdvance (v : ScannerView) (tape : Taped) (cursor : Cursor) : Type 
   pub before_end : cursor.at < v.span.end
   pub inside : v.span.end ≤ length tape.bytes
   pub unread : tape.place ≤ cursor.at
-
--- it has read on within its span, by a byte at least: whichever text has led to where it began, it has passed over no match
-pub record Advances (v : ScannerView) (cursor : Cursor) (tape : Taped) (counts : Counts) (new_cursor : Cursor)
-    (new_tape : Taped) (new_counts : Counts) : Type 0 where
-  pub bytes : new_tape.bytes ≡ tape.bytes
-  pub moved : cursor.at < new_cursor.at
-  pub within : new_cursor.at ≤ v.span.end
-  pub passes : (t : ScanText) → t.bytes ≡ tape.bytes → IsAlive v.scan t cursor
-      → PassesNoMatch v.scan t cursor.at (work_of tape counts) new_cursor (work_of new_tape new_counts)
 
 -- nothing is left to read up to an end, or nothing more is found
 abbrev pub IsOver : ℕ → ℕ → Node → Type 0

@@ -32,6 +32,14 @@ abbrev pub streaming_by : Built → List ℕ → ℕ → ℕ → ℕ → Phase �
 streaming_by built bytes given front kept phase buffer =
     record { built = built; bytes = bytes; given = given; front = front; kept = kept; phase = phase; buffer = buffer }
 
+-- a search over a stream, and its reader
+pub record StreamReading : Type 0 where
+  pub stream : Streaming
+  pub reader : Reading
+
+abbrev pub on : {R : Type 0} → (R → Reading) → Streaming → R → StreamReading
+on told stream reader = record { stream = stream; reader = told reader }
+
 -- one that begins: nothing was read
 abbrev pub initial_stream : Built → Streaming
 initial_stream built = streaming_by built [] 0 0 0 Open (buffer_len built.patterns)
@@ -88,10 +96,11 @@ GivesRead old result new = MatchOption result (HasGivenSettled old new) (λ m. G
 abbrev pub KeepsGiven : Streaming → List ℕ → Type 0
 KeepsGiven v bytes = take v.given (stream_result v.built bytes) ≡ take v.given (matches_so_far v)
 
--- some bytes more were read: the matches that were given stay as they are
+-- some bytes more were read, no more than the buffer has: the matches that were given stay as they are
 pub record FillsMore (old new : Streaming) (reader new_reader : Reading) : Type 0 where
   pub more : List ℕ
   pub some : 0 < length more
+  pub room : length more ≤ old.buffer
   pub reads : ReadsSome reader new_reader more
   pub same : new ≡ record old { bytes = old.bytes ++ more; front = new.front }
   pub small : length new.bytes ≤ usize_max
@@ -108,11 +117,12 @@ pub record FailsToFill (old new : Streaming) (reader new_reader : Reading) (e : 
   pub same : new ≡ record old { front = old.kept; phase = Failed }
 
 -- a read was made, which says whether some bytes came
-abbrev pub Fills : Bool → Streaming → Result Bool StreamError → Streaming → Reading → Reading → Type 0
-Fills ends old result new reader new_reader =
+abbrev pub Fills : Bool → StreamReading → Result Bool StreamError → StreamReading → Type 0
+Fills ends old result new =
     MatchResult result
-    (λ more. MatchBool more (FillsMore old new reader new_reader) (MeetsEnd ends old new reader new_reader))
-    (FailsToFill old new reader new_reader)
+    (λ more. MatchBool more (FillsMore old.stream new.stream old.reader new.reader)
+    (MeetsEnd ends old.stream new.stream old.reader new.reader))
+    (FailsToFill old.stream new.stream old.reader new.reader)
 
 -- what a call has read that a stream goes on by, and its phase then: some bytes more, or also its end; or nothing, where the end
 -- was met before
@@ -177,11 +187,11 @@ GivesNone Ended ends old new reader new_reader = EndsNow ends old new reader new
 GivesNone Failed ends old new reader new_reader = (new ≡ old) × (new_reader ≡ reader)
 
 -- what a call answers that gives the next match of the stream
-abbrev pub StreamsOn : Bool → Streaming → Option (Result Occurrence StreamError) → Streaming → Reading → Reading → Type 0
-StreamsOn ends old result new reader new_reader =
-    MatchOption result (GivesNone old.phase ends old new reader new_reader)
-    (λ item. MatchResult item (λ m. GivesNextMatch ends old m new reader new_reader)
-    (λ e. GivesError old e new reader new_reader))
+abbrev pub Streams : Bool → StreamReading → Option (Result Occurrence StreamError) → StreamReading → Type 0
+Streams ends old result new =
+    MatchOption result (GivesNone old.stream.phase ends old.stream new.stream old.reader new.reader)
+    (λ item. MatchResult item (λ m. GivesNextMatch ends old.stream m new.stream old.reader new.reader)
+    (λ e. GivesError old.stream e new.stream old.reader new.reader))
 
 -- there is no match any more, and no byte is left in the buffer that isn't kept
 pub record HasGivenLast (old new : Streaming) : Type 0 where
@@ -300,15 +310,6 @@ GivesSettled seen k state at result =
     MatchOption result (SettlesBy k.stops at.0 at.1 → GivesIn seen k state None)
     (λ given. SettlesBy k.stops at.0 at.1 × GivesIn seen k state (Some given))
 
--- what is seen of an iterator over the matches of a stream: the search, and its reader
-pub record StreamReading : Type 0 where
-  pub stream : Streaming
-  pub reader : Reading
-
--- the iterator has given the next item, and more was read where that was needed
-abbrev pub GivesStreamItem : Bool → StreamReading → Option (Result Occurrence StreamError) → StreamReading → Type 0
-GivesStreamItem ends old item new = StreamsOn ends old.stream item new.stream old.reader new.reader
-
 -- it has given the next match without a read, or there is none
 abbrev pub ReadsItem : StreamReading → Option Occurrence → StreamReading → Type 0
 ReadsItem old found new = GivesRead old.stream found new.stream × (new.reader ≡ old.reader)
@@ -321,10 +322,6 @@ items_in Failed given = 0
 
 abbrev pub items_left : StreamReading → ℕ
 items_left s = items_in s.stream.phase s.stream.given
-
--- one that begins
-abbrev pub initial_reading : Built → Reading → StreamReading
-initial_reading built reader = record { stream = initial_stream built; reader = reader }
 
 -- a search has read on in some bytes up to their end, or as far as it reads
 pub record ReadsThrough (s : Scan) (bytes : List ℕ) (cursor new_cursor : Cursor) (hand : Option ℕ) : Type 0 where

@@ -195,19 +195,23 @@ pub record NumbersNodes (kind : MatchKind) (patterns : List (List ℕ)) (nodes :
   pub each : (u : List ℕ) → Contains (inner_nodes kind patterns) u → (s : ℕ) × IsNumberOf nodes s u
   pub once : (s t : ℕ) (u : List ℕ) → IsNumberOf nodes s u → IsNumberOf nodes t u → s ≡ t
 
--- the states are those of an automaton that has both starts, and no more than there are numbers: the first four
--- are the dead state, one that no search reaches, and the two starts, and deeper ones come later
+-- the states are all those of an automaton, and no more than there are numbers: the first four are the dead state, one that no
+-- search reaches, and the two starts, and deeper ones come later
+pub record AreAllStates (g : TrieView) (states : List State) : Type 0 where
+  pub meant : AreStates g states
+  pub whole : length states ≡ length g.nodes
+  pub few : length g.nodes ≤ GREATEST + 1
+  pub unreached : slice_get g.nodes FAIL ≡ Some None
+  pub start : slice_get g.nodes START ≡ Some (Some [])
+  pub anchored_start : slice_get g.nodes ANCHORED_START ≡ Some (Some [])
+  pub numbered : NumbersNodes g.kind g.patterns g.nodes
+  pub rising : (s t : ℕ) (u v : Node) → slice_get g.nodes s ≡ Some u → slice_get g.nodes t ≡ Some v → s ≤ t
+      → depth u ≤ depth v
+
+-- they are so of an automaton that has both starts, and each lists the matches of its node
 pub record IsTrie (trie : Trie) (nodes : List Node) : Type 0 where
   pub both : trie.built.start_kind ≡ Both
-  pub states : AreStates (meaning_of trie nodes) trie.states
-  pub whole : length trie.states ≡ length nodes
-  pub few : length nodes ≤ GREATEST + 1
-  pub unreached : slice_get nodes FAIL ≡ Some None
-  pub start : slice_get nodes START ≡ Some (Some [])
-  pub anchored_start : slice_get nodes ANCHORED_START ≡ Some (Some [])
-  pub numbered : NumbersNodes trie.built.kind (plain_of trie.built) nodes
-  pub rising : (s t : ℕ) (u v : Node) → slice_get nodes s ≡ Some u → slice_get nodes t ≡ Some v → s ≤ t
-      → depth u ≤ depth v
+  pub states : AreAllStates (meaning_of trie nodes) trie.states
   pub lists : (s : ℕ) (v : Node) → slice_get nodes s ≡ Some v
       → listed_within trie.order trie.states s s ≡ all_matches (meaning_of trie nodes) v
 
@@ -223,8 +227,8 @@ pub stands-lists : (trie : Trie) (anchored : Anchored) (s : ℕ) (u : Node)
 stands-lists trie No s u h = h.is_trie.lists s u h.named
 stands-lists trie Yes s u h =
     let there = slice_get_within h.nodes s u h.named in
-    let whole = h.is_trie.whole in
-    let links = (h.is_trie.states.each s u (omega arith) h.named).links in
+    let whole = h.is_trie.states.whole in
+    let links = (h.is_trie.states.meant.each s u (omega arith) h.named).links in
     record {
       passed_over = all_matches (meaning_of trie h.nodes) links.linked;
       first = h.is_trie.lists s u h.named ∙ links.finds;

@@ -8,7 +8,7 @@ ghost use Rattle.ac_automaton.specs.Automata.{AutomatonView, CountsLooks, IsAnyS
 ghost use Rattle.ac_automaton.specs.Commits.{HasCommits};
 ghost use Rattle.ac_automaton.specs.Iterators.{GoesOn};
 ghost use Rattle.ac_automaton.specs.Overlaps.{ListsNext, Takes};
-ghost use Rattle.ac_automaton.specs.Streams.{initial_reading};
+ghost use Rattle.ac_automaton.specs.Streams.{initial_stream, on};
 ghost use Rattle.ac_automaton.specs.Scans.{Serves, skip_with};
 
 use ac_util::device::{Sink, Source};
@@ -462,7 +462,7 @@ pub trait Automaton {
     ) -> Result<StreamFindIter<'a, Self, R, Z>, StreamError>
     where
         Self: Sized,
-        ensures { BeginsStream (seen self.now).built (λ matches. matches ≡ initial_reading (seen self.now).built (R.told reader)) result }
+        ensures { BeginsStream (seen self.now).built (λ matches. matches ≡ on R.told (initial_stream (seen self.now).built) reader) result }
     {
         StreamFindIter::new(self, alloc, reader)
     }
@@ -478,7 +478,7 @@ pub trait Automaton {
     /// Those of `try_stream_find_iter`: then nothing was read or written. `Io` where a read or a write failed, and
     /// `TooLong` where more bytes came than a `usize` counts: what was written before that read stays written.
     /// `WriteZero` where a write took no byte. Where a write failed or took nothing, a prefix of the replaced text as
-    /// far as the stream was settled was written.
+    /// far as the stream was settled was written, and nothing was read after that.
     ///
     /// See the example of `AhoCorasick::try_stream_replace_all`, which is called alike.
     final fn try_stream_replace_all<R: Source, W: Sink, Z: Allocator>(

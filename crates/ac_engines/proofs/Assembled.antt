@@ -109,9 +109,9 @@ module _ (trie : Trie) (start_kind : StartKind) (classes : List ℕ) (exponent :
         → (s : ℕ) × HasRow filling nodes size s w
     state-of [] node = (2, record { may = may; named = may.are_nodes.start; place = inl refl })
     state-of (x ∷ w) node =
-        let state = may.are_nodes.numbered.each (x ∷ w)
+        let (s, number) = may.are_nodes.numbered.each (x ∷ w)
         (inner_nodes-has trie.built.kind (plain_of trie.built) (x ∷ w) node (λ e. absurd cc)) in
-        (state.0, record { may = may; named = state.1.named; place = inr state.1.inner })
+        (s, record { may = may; named = number.named; place = inr number.inner })
 
     -- its first row stands after whole rows
     first-row : (s : ℕ) (w : List ℕ) → HasRow filling nodes size s w
@@ -168,35 +168,33 @@ module _ (trie : Trie) (start_kind : StartKind) (classes : List ℕ) (exponent :
         unlisted = layout.unlisted;
         start = place-start trie nodes may.are_nodes numbers may.laid.count ∙ may.laid.start;
         inner = λ w node some.
-            let state = state-of w node in
-            let inner = after-starts trie nodes may.are_nodes state.0 w some state.1.named in
-            let within = slice_get_within nodes state.0 (Some w) state.1.named in
+            let (s, has) = state-of w node in
+            let inner = after-starts trie nodes may.are_nodes s w some has.named in
+            let within = slice_get_within nodes s (Some w) has.named in
             let count = may.laid.count in
-            let place = place-row filling nodes size state.0 w state.1 in
-            let row = may.laid.inner state.0 inner (omega arith) in
+            let place = place-row filling nodes size s w has in
+            let row = may.laid.inner s inner (omega arith) in
             omega arith;
         rows = λ anchored w node. row-of w node anchored;
         apart = λ v w first second other.
-            let one = state-of v first in
-            let two = state-of w second in
-            elim (strings-apart one.0 two.0 v w one.1 two.1 other) [
+            let (s, one) = state-of v first in
+            let (t, two) = state-of w second in
+            elim (strings-apart s t v w one two other) [
               | inl before ↦ inl (omega arith)
               | inr after ↦ inr (omega arith)
             ];
         within = λ anchored w node.
-            let state = state-of w node in
-            let room = row-room filling nodes size state.0 w state.1 anchored in
+            let (s, has) = state-of w node in
+            let room = row-room filling nodes size s w has anchored in
             let long = filled.long in
             omega arith;
         steps = λ anchored w b supported node byte.
-            let state = state-of w node in
-            (filled-row w state anchored supported).steps b byte;
+            (filled-row w (state-of w node) anchored supported).steps b byte;
         past = λ anchored w k supported node from to.
             (filled-row w (state-of w node) anchored supported).past k from to;
         lists = λ anchored w supported node.
-            let state = state-of w node in
-            rw (place-row filling nodes size state.0 w state.1)
-            (layout.rows state.0 w state.1.named state.1.place anchored supported);
+            let (s, has) = state-of w node in
+            rw (place-row filling nodes size s w has) (layout.rows s w has.named has.place anchored supported);
       }
         where
           narrow : (b : ℕ) → b < 256 → class_at classes b < 2 ^ exponent
@@ -205,20 +203,19 @@ module _ (trie : Trie) (start_kind : StartKind) (classes : List ℕ) (exponent :
           filled-row : (w : List ℕ) → (s : ℕ) × HasRow filling nodes size s w → (anchored : Anchored)
               → start_refusal start_kind anchored ≡ None → IsFilled (row_input filling nodes) anchored (Some w) entries
           filled-row w state anchored supported =
-              let row = state.1 in
-              filled.filled state.0 (Some w) (slice_get_within nodes state.0 (Some w) row.named)
+              let (s, row) = state in
+              filled.filled s (Some w) (slice_get_within nodes s (Some w) row.named)
               (λ other. elim row.place [ inl start ↦ absurd (omega arith) | inr inner ↦ absurd (omega arith) ])
               row.named anchored supported
 
           row-of : (w : List ℕ) → IsNode trie.built.kind (plain_of trie.built) (Some w) → (anchored : Anchored)
               → (row : ℕ) × (first_row_in nodes numbers w + anchored_shift start_kind anchored (2 ^ exponent) ≡ row * 2 ^ exponent)
           row-of w node anchored =
-              let state = state-of w node in
-              let first = first-row state.0 w state.1 in (
-                first.0 + anchored_shift start_kind anchored 1,
-                ap (λ n. n + anchored_shift start_kind anchored (2 ^ exponent))
-                    (place-row filling nodes size state.0 w state.1 ∙ first.1)
-                    ∙ anchored_shift-rows start_kind anchored first.0 (2 ^ exponent),
+              let (s, has) = state-of w node in
+              let (row, first) = first-row s w has in (
+                row + anchored_shift start_kind anchored 1,
+                ap (λ n. n + anchored_shift start_kind anchored (2 ^ exponent)) (place-row filling nodes size s w has ∙ first)
+                    ∙ anchored_shift-rows start_kind anchored row (2 ^ exponent),
               )
 
       -- and the layout says which of them have matches

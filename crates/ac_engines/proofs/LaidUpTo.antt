@@ -1,5 +1,5 @@
 -- What it is that the first so many states of a trie have their rows.
-use Rattle.std.proofs.Common.{◌≡◌, ◌⊎◌, ℕ, ◌+◌, ◌-◌, ◌*◌, ◌^◌, ◌<◌, ◌≤◌, List, [], ◌∷◌, ◌++◌, length, slice_index_or, arith, mul-le-mul_left, Some, slice_get}
+use Rattle.std.proofs.Common.{◌≡◌, ◌⊎◌, ℕ, ◌+◌, ◌-◌, ◌*◌, ◌^◌, ◌<◌, ◌≤◌, List, [], ◌∷◌, ◌++◌, length, slice_index_or, arith, Some, slice_get}
 use Rattle.std.proofs.lemmas.Grind.{common_steps}
 use Rattle.ac_util.specs.declared.search.Anchored.{Anchored}
 use Rattle.ac_automaton.specs.Util.{Built, Node, StartKind, state_count, Yes}
@@ -17,8 +17,8 @@ pub named-inner : (trie : Trie) (nodes : List Node) (s : ℕ) → AreNodes trie 
     → s < state_count trie.built.kind (plain_of trie.built) → IsNamed nodes s
 named-inner trie nodes s h inner within =
     let c = h.numbered.count in
-    let node = h.numbered.node s inner (omega (arith, c, within)) in
-    record { node = Some node.0; named = node.1.named }
+    let (w, node) = h.numbered.node s inner (omega (arith, c, within)) in
+    record { node = Some w; named = node.named }
 
 -- what is laid out: which starts the table has, what it is built from, which node each state stands for, and how many
 -- entries a row has
@@ -77,12 +77,6 @@ module _ (p : Plan) where
     pub within : back ≤ last
     pub rows : (t : ℕ) → 4 ≤ t → t < s → HasRows lists back last t (slice_index_or numbers t 0)
     pub apart : (t r : ℕ) → 4 ≤ t → t < r → r < s → Apart (slice_index_or numbers t 0) (slice_index_or numbers r 0)
-
-  -- before the last state there is room for one more
-  pub room-left : (s : ℕ) (numbers : List ℕ) (lists : List (List ℕ)) (back last : ℕ)
-      → IsLaidUpTo s numbers lists back last → s < length p.nodes → each ≤ back
-  room-left s numbers lists back last h before =
-      omega (arith, h.room, mul-le-mul_left {m = 1} {n = length p.nodes - s} each (omega arith))
 
   -- rows that end in front of a row, counted in rows, do so in entries
   pub row-order : (row next : ℕ) → row + each ≤ next

@@ -22,12 +22,16 @@ pub mod OneRow
 pub mod Owning
 pub mod PackedBuilding
 pub mod PackedBuilt
+pub mod PackedForms
+pub mod PackedNodes
 pub mod PackedNumbering
 pub mod PackedNumbers
 pub mod PackedPlaces
 pub mod PackedStates
 pub mod PackedSteps
 pub mod PackedSums
+pub mod PackedWords
+pub mod PlacedStates
 pub mod Places
 pub mod PlanStates
 pub mod PlanSums
@@ -40,10 +44,8 @@ pub mod RowLists
 pub mod Setting
 pub mod SettingTargets
 mod SizeRows
-pub mod PackedWords
 pub mod Starts
 pub mod StateRows
-pub mod PackedNodes
 pub mod Transitions
 pub mod Vectors
 pub mod WordCounts

@@ -70,9 +70,9 @@ matches-distinct kind patterns w =
 match-numbered : (built : Built) (u : Node) (n : ℕ) → IsIn n (matches_of built No u) → n < length built.patterns
 match-numbered built None n h = absurd h
 match-numbered built (Some w) n h =
-    let from = IsIn-from_flat_map (equal_to built.kind (plain_of built)) n
+    let (suffix, among, has) = IsIn-from_flat_map (equal_to built.kind (plain_of built)) n
     (open_suffixes built.kind (plain_of built) w) h in
-    let numbered = (IsIn-from_equal_to built.kind (plain_of built) from.0 n from.2).numbered in
+    let numbered = (IsIn-from_equal_to built.kind (plain_of built) suffix n has).numbered in
     omega (arith, numbered, length-map built.patterns (plain built.ignores_case))
 
 -- the same of all of them

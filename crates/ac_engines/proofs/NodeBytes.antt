@@ -3,7 +3,7 @@ use Rattle.std.proofs.Common.{◌≡◌, ◌≢◌, ℕ, zero, suc, ◌<◌, ◌
 use Rattle.std.specs.List.{starts_with}
 use Rattle.std.proofs.lemmas.Option.{slice_get_within}
 use Rattle.ac_util.specs.Prelude.{participants}
-use Rattle.ac_util.proofs.Lists.{IsIn, IsIn-from_Contains, IsIn-from_map}
+use Rattle.ac_util.proofs.Lists.{IsIn-from_Contains, IsIn-from_map}
 use Rattle.ac_util.proofs.NodeCount.{any_passes, inner_nodes-has, inner_nodes-only}
 use Rattle.ac_util.proofs.Participants.{is_node-front}
 use Rattle.ac_automaton.specs.Util.{is_node, IsNode, Node, pattern_of, plain_byte, step, Yes}
@@ -11,7 +11,7 @@ use Rattle.ac_automaton.specs.declared.nfa.noncontiguous.state.Transition.{Trans
 use Rattle.ac_automaton.specs.declared.nfa.noncontiguous.state.TheConstants.{ANCHORED_START, START}
 use Rattle.ac_automaton.specs.Prelude.{AreNodes, IsNumbered, meaning_of, plain_of, Represents, state_at, transition_bytes, transitions_of, Trie}
 use Rattle.ac_automaton.proofs.Branched.{transition_target-is}
-use Rattle.ac_automaton.proofs.Places.{place-of, PlaceOf}
+use Rattle.ac_automaton.proofs.Places.{place-of}
 use Rattle.ac_automaton.proofs.Prefixes.{starts_with-last}
 use Rattle.ac_automaton.proofs.WholeTries.{plain-pattern}
 
@@ -49,8 +49,8 @@ module _ (trie : Trie) (nodes : List Node) (are : AreNodes trie nodes) where
   pub stated : (w : List ℕ) → IsNode trie.built.kind (plain_of trie.built) (Some w) → IsStated w
   stated [] node = record { state = START; named = are.start; place = inl refl }
   stated (x ∷ w) node =
-      let found = are.numbered.each (x ∷ w) (inner_nodes-has trie.built.kind (plain_of trie.built) (x ∷ w) node (λ e. absurd cc)) in
-      record { state = found.0; named = found.1.named; place = inr found.1.inner }
+      let (s, number) = are.numbered.each (x ∷ w) (inner_nodes-has trie.built.kind (plain_of trie.built) (x ∷ w) node (λ e. absurd cc)) in
+      record { state = s; named = number.named; place = inr number.inner }
 
   -- a state that stands for a string and isn't the anchored start is the unanchored one or an inner state
   pub named-place : (s : ℕ) (w : List ℕ) → IsNumbered nodes s w → s ≢ ANCHORED_START → (s ≡ 2) ⊎ (4 ≤ s)
@@ -69,8 +69,9 @@ module _ (trie : Trie) (nodes : List Node) (are : AreNodes trie nodes) where
   named-node (suc (suc (suc zero))) w named =
       let empty : w ≡ [] = let start = are.anchored_start in cc in subst (λ (v : List ℕ). IsNode trie.built.kind (plain_of trie.built) (Some v)) (sym empty) refl
   named-node (suc (suc (suc (suc s)))) w named =
-      (inner_nodes-only trie.built.kind (plain_of trie.built) w
-      (are.numbered.only (suc (suc (suc (suc s)))) w (record { inner = omega arith; named = named }))).0
+      let (node, some) = inner_nodes-only trie.built.kind (plain_of trie.built) w
+      (are.numbered.only (suc (suc (suc (suc s)))) w (record { inner = omega arith; named = named })) in
+      node
 
   module _ (w : List ℕ) (b : ℕ) (node : IsNode trie.built.kind (plain_of trie.built) (Some (w ++ b ∷ []))) where
     -- the string without its last byte leads to a node too
@@ -90,17 +91,21 @@ module _ (trie : Trie) (nodes : List Node) (are : AreNodes trie nodes) where
         by : (w : List ℕ) → is_node trie.built.kind (plain_of trie.built) (w ++ b ∷ []) ≡ true
             → plain_byte trie.built.ignores_case b ≡ b
         by [] node =
-            let r = any_passes (λ number. starts_with nat_eq (pattern_of (plain_of trie.built) number) (b ∷ []))
+            let (number, among, begins) = any_passes (λ number. starts_with nat_eq (pattern_of (plain_of trie.built) number) (b ∷ []))
             (participants trie.built.kind (plain_of trie.built)) node in
-            of-pattern [] r.0 r.2
+            of-pattern [] number begins
         by (x ∷ w) node =
-            let r = any_passes (λ number. starts_with nat_eq (pattern_of (plain_of trie.built) number) (x ∷ w ++ b ∷ []))
+            let (number, among, begins) = any_passes (λ number. starts_with nat_eq (pattern_of (plain_of trie.built) number) (x ∷ w ++ b ∷ []))
             (participants trie.built.kind (plain_of trie.built)) node in
-            of-pattern (x ∷ w) r.0 r.2
+            of-pattern (x ∷ w) number begins
 
     -- and small: the state of the string without it has a transition by it
     pub last-small : b < 256
-    last-small = subst (λ (n : ℕ). n < 256) last.2 (represents.small found.place last.0 found.there)
+    last-small =
+        let (x, among, is) = IsIn-from_map (λ (x : Transition). x.byte) b own
+        (IsIn-from_Contains b (transition_bytes own) ((represents.branches b).1 (λ none. let no = sym steps ∙ none in cc))) in
+        let found = place-of x own among in
+        subst (λ (n : ℕ). n < 256) is (represents.small found.place x found.there)
       where
         parent : IsStated w
         parent = stated w front-node
@@ -108,8 +113,8 @@ module _ (trie : Trie) (nodes : List Node) (are : AreNodes trie nodes) where
         represents : Represents (meaning_of trie nodes) parent.state (Some w) (state_at trie.states parent.state)
         represents =
             let within = slice_get_within nodes parent.state (Some w) parent.named in
-            let whole = are.is_trie.whole in
-            are.is_trie.states.each parent.state (Some w) (omega (arith, within, whole)) parent.named
+            let whole = are.is_trie.states.whole in
+            are.is_trie.states.meant.each parent.state (Some w) (omega (arith, within, whole)) parent.named
 
         own : List Transition
         own = transitions_of trie.transitions (state_at trie.states parent.state)
@@ -118,10 +123,3 @@ module _ (trie : Trie) (nodes : List Node) (are : AreNodes trie nodes) where
         steps =
             ap (step trie.built.kind (plain_of trie.built) Yes (Some w)) last-plain
             ∙ transition_target-is trie.built.kind (plain_of trie.built) w b node
-
-        last : (x : Transition) × IsIn x own × (x.byte ≡ b)
-        last = IsIn-from_map (λ (x : Transition). x.byte) b own
-            (IsIn-from_Contains b (transition_bytes own) ((represents.branches b).1 (λ none. let no = sym steps ∙ none in cc)))
-
-        found : PlaceOf last.0 own
-        found = place-of last.0 own last.1

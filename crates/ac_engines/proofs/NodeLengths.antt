@@ -19,7 +19,7 @@ pub node-length : (kind : MatchKind) (ignores_case : Bool) (patterns : List (Lis
 node-length kind ignores_case patterns [] node = omega arith
 node-length kind ignores_case patterns (x ∷ w) node =
     let plains = map (plain ignores_case) patterns in
-    let one =
+    let (number, among, begins) =
     any_passes (λ n. starts_with nat_eq (pattern_of plains n) (x ∷ w)) (participants kind plains) node in
-    let short = starts_with-length (pattern_of plains one.0) (x ∷ w) one.2 in
-    omega (arith, short, pattern-length ignores_case patterns one.0)
+    let short = starts_with-length (pattern_of plains number) (x ∷ w) begins in
+    omega (arith, short, pattern-length ignores_case patterns number)

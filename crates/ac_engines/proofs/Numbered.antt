@@ -1,6 +1,7 @@
 -- Where the rows of the states of a trie stand.
 use Rattle.std.proofs.lemmas.Grind.{common_steps}
-use Rattle.std.proofs.Common.{◌≡◌, ◌≢◌, ℕ, zero, suc, ◌<◌, ◌≤◌, List, [], length, slice_index_or, arith, Some, slice_get, rules}
+use Rattle.std.proofs.Common.{◌≡◌, ◌≢◌, ℕ, zero, suc, ◌<◌, ◌≤◌, List, [], length, slice_index_or, arith, None, Some, slice_get, rules}
+use Rattle.std.proofs.lemmas.Option.{slice_get_within}
 use Rattle.ac_util.specs.Node.{Node}
 use Rattle.ac_util.proofs.NodeCount.{inner_nodes-only}
 use Rattle.ac_automaton.specs.Prelude.{AreNodes, plain_of, Trie}
@@ -11,8 +12,16 @@ module _ (trie : Trie) (nodes : List Node) (h : AreNodes trie nodes) where
   -- the state of a string that isn't empty stands after the starts, and is the only one
   pub inner-string : (s : ℕ) (w : List ℕ) → 4 ≤ s → slice_get nodes s ≡ Some (Some w) → w ≢ []
   inner-string s w inner named =
-      (inner_nodes-only trie.built.kind (plain_of trie.built) w
-      (h.numbered.only s w (record { inner = inner; named = named }))).1
+      let (node, some) = inner_nodes-only trie.built.kind (plain_of trie.built) w
+      (h.numbered.only s w (record { inner = inner; named = named })) in
+      some
+
+  -- none after the starts is the dead one
+  pub inner-alive : (s : ℕ) → 4 ≤ s → slice_get nodes s ≢ Some None
+  inner-alive s inner dead =
+      let (w, number) = h.numbered.node s inner (slice_get_within nodes s None dead) in
+      let named = number.named in
+      absurd cc
 
   first-inner : (s : ℕ) (w : List ℕ) → 4 ≤ s → slice_get nodes s ≡ Some (Some w)
       → (t : ℕ) → t < s → slice_get nodes t ≢ Some (Some w)

@@ -1,23 +1,18 @@
 -- The rows of a state and of those to which its own transitions lead.
-use Rattle.std.proofs.Common.{◌≡◌, ◌≢◌, ℕ, ◌+◌, ◌<◌, ◌≤◌, List, [], ◌∷◌, ◌++◌, length, take, slice_set, refl, arith, Some, None, Contains, slice_get, rules}
+use Rattle.std.proofs.Common.{◌≡◌, ◌≢◌, ℕ, ◌+◌, ◌≤◌, List, [], ◌∷◌, ◌++◌, length, take, slice_set, refl, arith, Some, None, Contains, slice_get, rules}
 use Rattle.std.proofs.lemmas.Option.{get_or_from_slice_get, slice_get_within}
 use Rattle.std.proofs.lemmas.Grind.{common_steps}
 use Rattle.ac_util.specs.declared.search.Anchored.{Anchored}
-use Rattle.ac_automaton.specs.Util.{Both, Built, class_at, No, Node, plain_byte, StartKind, state_count, Unanchored, Yes}
+use Rattle.ac_automaton.specs.Util.{Both, Built, class_at, No, Node, plain_byte, StartKind, Unanchored, Yes}
 use Rattle.ac_util.specs.declared.search.StartKind.TheVariants.{Anchored as AnchoredAlone}
 use Rattle.ac_util.proofs.ClassLemmas.{stands-from_node}
 use Rattle.ac_util.proofs.Lists.{Contains-from_IsIn, IsIn, IsIn-at}
-use Rattle.ac_automaton.specs.Prelude.{AreNodes, IsOwn, transition_bytes_of, plain_of, Trie}
+use Rattle.ac_automaton.specs.Prelude.{IsOwn, transition_bytes_of}
 use Rattle.ac_automaton.proofs.Places.{take-next}
 use Rattle.ac_engines.specs.Prelude.{anchored_shift, Filling, HasRow, HasSet, row_at, row_input}
 use Rattle.ac_engines.proofs.Filled.{transition_bytes_of-only, transition_bytes_of-small}
 use Rattle.ac_engines.proofs.Numbered.{after-starts, place-row}
 use Rattle.ac_engines.proofs.Setting.{set-more}
-
--- a state that stands for a node is one of all
-pub numbered-below : (trie : Trie) (nodes : List Node) (s : ℕ) (u : Node) → AreNodes trie nodes
-    → slice_get nodes s ≡ Some u → s < state_count trie.built.kind (plain_of trie.built)
-numbered-below trie nodes s u h named = search (rules, slice_get_within)
 
 -- no row stands further back than the anchored one
 pub anchored_shift-most : (start_kind : StartKind) (anchored : Anchored) (stride : ℕ)

@@ -10,7 +10,7 @@ use Rattle.ac_engines.specs.Prelude.{AreReady, ContiguousView, IsContiguous, IsC
 use Rattle.ac_engines.proofs.NodeBytes.{named-node, named-place, stated}
 use Rattle.ac_engines.proofs.Numbered.{place-inner, place-start}
 use Rattle.ac_engines.proofs.PackedPlaces.{place-number, same-place}
-use Rattle.ac_engines.proofs.PackedStates.{places-apart}
+use Rattle.ac_engines.proofs.PlacedStates.{one-place}
 use Rattle.ac_engines.proofs.Renumbered.{IsNumbering, IsNumbersState}
 
 module _ (f : Packer) (nodes : List Node) (ready : AreReady f nodes) (p : ContiguousView)
@@ -56,15 +56,9 @@ module _ (f : Packer) (nodes : List Node) (ready : AreReady f nodes) (p : Contig
   one-state : (s t : ℕ) (u v : Node) → 2 ≤ s → 2 ≤ t → slice_get nodes s ≡ Some u → slice_get nodes t ≡ Some v
       → slice_index_or f.numbers s 0 ≡ slice_index_or f.numbers t 0 → s ≡ t
   one-state s t u v first second named there same =
-      let here = ready.places.each s (slice_get_within nodes s u named) in
-      let other = ready.places.each t (slice_get_within nodes t v there) in
-      elim (cases_lt s t) [
-        | inl less ↦ absurd (places-apart f nodes ready s t u v first less named there (sym here ∙ same ∙ other))
-        | inr no_less ↦ elim (cases_lt t s) [
-          | inl less ↦ absurd (places-apart f nodes ready t s v u second less there named (sym other ∙ sym same ∙ here))
-          | inr no_more ↦ omega (arith, no_less, no_more)
-        ]
-      ]
+      one-place f nodes ready s t u v first second named there
+      (sym (ready.places.each s (slice_get_within nodes s u named)) ∙ same
+      ∙ ready.places.each t (slice_get_within nodes t v there))
 
   packed-only : (s n : ℕ) (w : List ℕ) → s ≢ ANCHORED_START → slice_get f.numbers s ≡ Some n
       → IsContiguousState p No n (Some w) → IsNumbered nodes s w

@@ -6,14 +6,7 @@ use Rattle.ac_util.specs.declared.search.Anchored.{Anchored}
 use Rattle.ac_automaton.specs.Automata.{matches_of}
 use Rattle.ac_engines.specs.Prelude.{BeginsWith, ContiguousView, Format, IsContiguousState, match_list_at, node_format, number_at, Places, PackedState, packed_at}
 use Rattle.ac_engines.proofs.MatchCounts.{matches-numbered}
-
--- what a state spells has the matches of its node
-format_words-matches : (p : ContiguousView) (at : Places) (anchored : Anchored) (u : Node)
-    → (packed_at p at anchored u).matches ≡ matches_of p.built No u
-format_words-matches p at anchored None = refl
-format_words-matches p at No (Some []) = refl
-format_words-matches p at Yes (Some []) = refl
-format_words-matches p at anchored (Some (x ∷ w)) = refl
+use Rattle.ac_engines.proofs.PackedNodes.{matches-packed_at}
 
 module _ (p : ContiguousView) (anchored : Anchored) (s : ℕ) where
   -- the dead node's number is 0, and no other's
@@ -85,7 +78,7 @@ module _ (p : ContiguousView) (anchored : Anchored) (s : ℕ) where
     format = node_format p.built p.dense_depth u;
     as_packed = packed_at p h.at anchored u;
     words = rw (there_is, classes_is, h.number) (h.is_contiguous.states anchored u h.node);
-    same = format_words-matches p h.at anchored u ∙ sym (listed-matches u h);
+    same = matches-packed_at p h.at anchored u ∙ sym (listed-matches u h);
     numbered = λ k below.
         let few = h.is_contiguous.few in
         let low = subst (All (λ n. n < length p.built.patterns)) (sym (listed-matches u h)) (matches-numbered p.built u) k 0 below in

@@ -32,9 +32,9 @@ module _ (words : List ℕ) (classes : ℕ) where
   sparse-edges : (s : PackedState) → BeginsWith words Sparse classes s
       → edges_from (class_of_place (Some front)) 0 targets ≡ s.edges
   sparse-edges s h =
-      let few = form-sparse words classes s h in
+      let form = form-sparse words classes s h in
       sparse-transitions words classes s targets Sparse count (div_ceil count 4) front h refl
-      (λ e. absurd (omega (arith, e, few.0, few.1))) (λ e. absurd (omega (arith, e, few.0, few.1))) refl refl refl
+      (λ e. absurd (omega (arith, e, form.counts, form.few))) (λ e. absurd (omega (arith, e, form.counts, form.few))) refl refl refl
 
 module _ (words : List ℕ) (classes : ℕ) (s t : PackedState) (class : ℕ) (low : class < classes)
     (s-named : AreNamed s.edges) (t-named : AreNamed t.edges) where
@@ -60,7 +60,9 @@ module _ (words : List ℕ) (classes : ℕ) (s t : PackedState) (class : ℕ) (l
       by (inl hit) = named-same _ _ (sym (one.hit hit s-named) ∙ two.hit hit t-named)
       by (inr miss) = named-same _ _ (sym (one.fallback miss) ∙ two.fallback miss)
   same-target Sparse h k =
-      ap (λ (n : ℕ). target_by n s.edges class) (h.fits.1 ∙ sym k.fits.1)
+      let (few, nowhere) = h.fits in
+      let (few', nowhere') = k.fits in
+      ap (λ (n : ℕ). target_by n s.edges class) (nowhere ∙ sym nowhere')
       ∙ ap (λ (es : List Edge). target_by t.default_target es class) (same-sparse h k)
 
 module _ (trie : Trie) (nodes : List Node) (are : AreNodes trie nodes) (p : ContiguousView)

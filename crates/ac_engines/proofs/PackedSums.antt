@@ -35,26 +35,31 @@ pub total-range : (f : ℕ → ℕ) (a n : ℕ) → total f (a + n) ≡ total f 
 total-range f a zero = ap (total f) (let e : a + zero ≡ a = omega arith in e) ∙ omega arith
 total-range f a (suc n) = search (rules, total-range f (a + 1) n, total-more, sum_by-cons)
 
--- rest is ys without one place at which x stands
-record IsWithout {X : Type 0} (f : X → ℕ) (x : X) (ys rest : List X) : Type 0 where
+-- a list without one place at which an element stands
+record Without {X : Type 0} (f : X → ℕ) (x : X) (ys : List X) : Type 0 where
+  rest : List X
   shorter : suc (length rest) ≡ length ys
   others : (z : X) → x ≢ z → IsIn z ys → IsIn z rest
   sum : sum_by f ys ≡ f x + sum_by f rest
 
 -- an element's place can be taken out
-without : {X : Type 0} (f : X → ℕ) (x : X) (ys : List X) → IsIn x ys → (rest : List X) × IsWithout f x ys rest
+without : {X : Type 0} (f : X → ℕ) (x : X) (ys : List X) → IsIn x ys → Without f x ys
 without f x [] h = absurd h
-without f x (y ∷ ys) (inl e) = grind (arith, common_steps, sum_by-cons f y ys)
+without f x (y ∷ ys) (inl e) = record {
+  rest = ys;
+  shorter = refl;
+  others = λ z other k. elim k [ inl g ↦ absurd (other (sym e ∙ g)) | inr l ↦ l ];
+  sum = sum_by-cons f y ys ∙ ap (λ z. f z + sum_by f ys) e;
+}
 without f x (y ∷ ys) (inr h) =
     let later = without f x ys h in
-    let shorter = later.1.shorter in (
-      y ∷ later.0,
-      record {
-        shorter = omega arith;
-        others = λ z other k. elim k [ inl g ↦ inl g | inr l ↦ inr (later.1.others z other l) ];
-        sum = omega (arith, sum_by-cons f y ys, sum_by-cons f y later.0, later.1.sum);
-      },
-    )
+    let shorter = later.shorter in
+    record {
+      rest = y ∷ later.rest;
+      shorter = omega arith;
+      others = λ z other k. elim k [ inl g ↦ inl g | inr l ↦ inr (later.others z other l) ];
+      sum = omega (arith, sum_by-cons f y ys, sum_by-cons f y later.rest, later.sum);
+    }
 
 -- two lists have one sum if one has distinct elements, and the other has all of these and no more elements
 sum-same : {X : Type 0} (f : X → ℕ) (xs ys : List X) → IsOrdered (λ x y. x ≢ y) xs → length ys ≤ length xs
@@ -63,10 +68,10 @@ sum-same f [] [] apart short into = refl
 sum-same f [] (y ∷ ys) apart short into = absurd (omega arith)
 sum-same f (x ∷ xs) ys apart short into =
     let cut = without f x ys (into x (inl refl)) in
-    let shorter = cut.1.shorter in
-    let rest = sum-same f xs cut.0 apart.1 (omega arith)
-    (λ z h. cut.1.others z (apart.0 z h) (into z (inr h))) in
-    omega (arith, sum_by-cons f x xs, cut.1.sum, rest)
+    let shorter = cut.shorter in
+    let (other, later) = apart in
+    let rest = sum-same f xs cut.rest later (omega arith) (λ z h. cut.others z (other z h) (into z (inr h))) in
+    omega (arith, sum_by-cons f x xs, cut.sum, rest)
 
 -- the string of a node
 abbrev string_of : Option (Option (List ℕ)) → List ℕ
@@ -85,7 +90,8 @@ module _ (trie : Trie) (nodes : List Node) (h : AreNodes trie nodes) where
   -- a state after the starts stands for its string
   string-named : (s : ℕ) → 4 ≤ s → s < length nodes → slice_get nodes s ≡ Some (Some (string_at s))
   string-named s after within =
-      let named = (h.numbered.node s after within).1.named in named ∙ ap (λ w. Some (Some (string_of w))) (sym named)
+      let (w, node) = h.numbered.node s after within in
+      node.named ∙ ap (λ w. Some (Some (string_of w))) (sym node.named)
 
   -- different states after the starts stand for different strings
   strings-apart : (a n : ℕ) → 4 ≤ a → a + n ≤ length nodes
@@ -93,25 +99,25 @@ module _ (trie : Trie) (nodes : List Node) (h : AreNodes trie nodes) where
   strings-apart a zero after within = tt
   strings-apart a (suc n) after within = (
     (λ w has same.
-        let from = IsIn-from_map string_at w (range_with_len (a + 1) n) has in
-        let later = IsIn-from_range from.0 (a + 1) n from.1 in
+        let (s, among, is) = IsIn-from_map string_at w (range_with_len (a + 1) n) has in
+        let (later, below) = IsIn-from_range s (a + 1) n among in
         let first = string-named a after (omega arith) in
-        let second = string-named from.0 (omega (arith, later.0)) (omega (arith, later.1)) in
-        let both : string_at a ≡ string_at from.0 = same ∙ sym from.2 in
-        let once = h.numbered.once a from.0 (string_at a) (record { inner = after; named = first })
-        (record { inner = omega (arith, later.0); named = second ∙ ap (λ v. Some (Some v)) (sym both) }) in
-        omega (arith, once, later.0)),
+        let second = string-named s (omega (arith, later)) (omega (arith, below)) in
+        let both : string_at a ≡ string_at s = same ∙ sym is in
+        let once = h.numbered.once a s (string_at a) (record { inner = after; named = first })
+        (record { inner = omega (arith, later); named = second ∙ ap (λ v. Some (Some v)) (sym both) }) in
+        omega (arith, once, later)),
     strings-apart (a + 1) n (omega arith) (omega arith),
   )
 
   -- all of them are counted
   strings-inner : (n : ℕ) → 4 + n ≤ length nodes → (w : List ℕ) → IsIn w (map string_at (range_with_len 4 n)) → IsIn w inner
   strings-inner n within w has =
-      let from = IsIn-from_map string_at w (range_with_len 4 n) has in
-      let at = IsIn-from_range from.0 4 n from.1 in
-      subst (λ v. IsIn v inner) from.2
-      (IsIn-from_Contains (string_at from.0) inner (h.numbered.only from.0 (string_at from.0)
-      (record { inner = at.0; named = string-named from.0 at.0 (omega (arith, at.1)) })))
+      let (s, among, is) = IsIn-from_map string_at w (range_with_len 4 n) has in
+      let (after, below) = IsIn-from_range s 4 n among in
+      subst (λ v. IsIn v inner) is
+      (IsIn-from_Contains (string_at s) inner (h.numbered.only s (string_at s)
+      (record { inner = after; named = string-named s after (omega (arith, below)) })))
 
   module _ (f : ℕ → ℕ) (g : List ℕ → ℕ)
       (same : (s : ℕ) (w : List ℕ) → 4 ≤ s → slice_get nodes s ≡ Some (Some w) → f s ≡ g w) where

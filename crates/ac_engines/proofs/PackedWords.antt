@@ -94,7 +94,7 @@ module _ (words : List ℕ) (classes : ℕ) (s : PackedState) where
 
   pub one-words : (h : BeginsWith words One classes s) → HasOne h.rest
   unfolding format_words
-  one-words h = has-one s.edges h.rest refl h.fits.0 h.words_are
+  one-words h = let (single, unmatched, leads_nowhere) = h.fits in has-one s.edges h.rest refl single h.words_are
 
   -- a dense state leads by each class where the word of that class says
   pub record LeadsAt (class : ℕ) : Type 0 where
@@ -156,18 +156,23 @@ module _ (words : List ℕ) (classes : ℕ) (s : PackedState) where
   pub form-one : BeginsWith words One classes s → form ≡ 254
   form-one h = grind (arith, common_steps, one-words h)
 
-  pub form-sparse : BeginsWith words Sparse classes s → (form ≡ length s.edges) × (length s.edges ≤ 127)
+  -- that of a sparse state is the number of its transitions, of which there are few
+  pub record HasSparseForm : Type 0 where
+    pub counts : form ≡ length s.edges
+    pub few : length s.edges ≤ 127
+
+  pub form-sparse : BeginsWith words Sparse classes s → HasSparseForm
   form-sparse h = grind (arith, common_steps, sparse-words h)
 
   pub is-dense : (format : Format) → BeginsWith words format classes s → form ≡ 255 → BeginsWith words Dense classes s
   is-dense Dense h says = h
   is-dense One h says = let one = form-one h in absurd (omega (arith, one, says))
-  is-dense Sparse h says = let sparse = form-sparse h in absurd (omega (arith, sparse.0, sparse.1, says))
+  is-dense Sparse h says = let sparse = form-sparse h in absurd (omega (arith, sparse.counts, sparse.few, says))
 
   pub is-one : (format : Format) → BeginsWith words format classes s → form ≡ 254 → BeginsWith words One classes s
   is-one Dense h says = let dense = form-dense h in absurd (omega (arith, dense, says))
   is-one One h says = h
-  is-one Sparse h says = let sparse = form-sparse h in absurd (omega (arith, sparse.0, sparse.1, says))
+  is-one Sparse h says = let sparse = form-sparse h in absurd (omega (arith, sparse.counts, sparse.few, says))
 
   -- what is known of a sparse state: its low byte is the number of its transitions
   pub record IsSparse : Type 0 where
@@ -177,7 +182,7 @@ module _ (words : List ℕ) (classes : ℕ) (s : PackedState) where
   pub is-sparse : (format : Format) → BeginsWith words format classes s → form ≢ 255 → form ≢ 254 → IsSparse
   is-sparse Dense h dense one = absurd (dense (form-dense h))
   is-sparse One h dense one = absurd (one (form-one h))
-  is-sparse Sparse h dense one = record { begins = h; counts = (form-sparse h).0 }
+  is-sparse Sparse h dense one = record { begins = h; counts = (form-sparse h).counts }
 
   -- the matches of a state stand from a place on
   pub record ListsFrom (place : ℕ) (rest : List ℕ) : Type 0 where
@@ -195,14 +200,15 @@ module _ (words : List ℕ) (classes : ℕ) (s : PackedState) where
       lists-from (2 + classes) (DENSE ∷ s.failure ∷ map (target_by s.default_target s.edges) (range_with_len 0 classes)) h.rest
       (dense-words h) (omega (arith, many))
   dense-lists One h says = let one = form-one h in absurd (omega (arith, one, says))
-  dense-lists Sparse h says = let sparse = form-sparse h in absurd (omega (arith, sparse.0, sparse.1, says))
+  dense-lists Sparse h says = let sparse = form-sparse h in absurd (omega (arith, sparse.counts, sparse.few, says))
 
   pub sparse-lists : (format : Format) (h : BeginsWith words format classes s) (low count : ℕ) → low ≡ form
       → low ≢ 255 → s.matches ≢ [] → count ≡ div_ceil low 4 → ListsFrom (2 + count + low) h.rest
   sparse-lists Dense h low count is says some counts = absurd (says (is ∙ form-dense h))
-  sparse-lists One h low count is says some counts = absurd (some h.fits.1)
+  sparse-lists One h low count is says some counts =
+      let (single, unmatched, leads_nowhere) = h.fits in absurd (some unmatched)
   sparse-lists Sparse h low count is says some counts =
-      let transitions = is ∙ (form-sparse h).0 in
+      let transitions = is ∙ (form-sparse h).counts in
       let same = counted s.edges low transitions in
       let targets = length-map s.edges (λ e. e.target) in
       let both = length-append (class_words (edge_classes s.edges)) (targets_of s.edges) in

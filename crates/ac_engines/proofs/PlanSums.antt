@@ -5,7 +5,7 @@ use Rattle.std.proofs.lemmas.Option.{slice_get-get_or}
 use Rattle.std.proofs.lemmas.Grind.{common_steps}
 use Rattle.ac_automaton.specs.Util.{alphabet_len, Node, state_count}
 use Rattle.ac_automaton.specs.Prelude.{plain_of}
-use Rattle.ac_engines.specs.Prelude.{front_end, has_matches, HasWords, MayPack, packed_words, PackPlan, place_at, size_at, size_of, sized, total}
+use Rattle.ac_engines.specs.Prelude.{before, front_end, has_matches, HasWords, MayPack, packed_words, PackPlan, place_at, size_at, size_of, sized, total}
 use Rattle.ac_engines.proofs.LaidUpTo.{IsNamed}
 use Rattle.ac_engines.proofs.PackedSums.{total-both, total-grows, total-inner, total-more}
 
@@ -13,10 +13,6 @@ use Rattle.ac_engines.proofs.PackedSums.{total-both, total-grows, total-inner, t
 pub plan-states : (p q : PackPlan) (nodes : List Node) (n : ℕ) → MayPack q nodes → p ≡ q
     → n ≡ state_count p.trie.built.kind (plain_of p.trie.built) → n ≡ length nodes
 plan-states p q nodes n may same whole = cc
-
--- the sum of the sizes of the states before one, of those that have matches or of the others
-abbrev pub before : PackPlan → List Node → Bool → ℕ → ℕ
-before q nodes front s = total (size_at q nodes front) s
 
 -- a state takes so many words, among those in front or among the others
 pub record TakesSize (q : PackPlan) (nodes : List Node) (s : ℕ) (matched : Bool) (words : ℕ) : Type 0 where

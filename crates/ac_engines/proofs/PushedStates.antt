@@ -41,8 +41,9 @@ length-format_words Dense classes s fits =
     let last = length-match_list_words s.matches in
     omega arith
 length-format_words One classes s fits =
-    let one = length-one_words s.failure s.edges fits.0 in
-    let none = ap (λ (matches : List ℕ). match_words (length matches)) fits.1 in
+    let (single, unmatched, leads_nowhere) = fits in
+    let one = length-one_words s.failure s.edges single in
+    let none = ap (λ (matches : List ℕ). match_words (length matches)) unmatched in
     omega arith
 length-format_words Sparse classes s fits =
     let classes_of = map (λ (e : Edge). e.class) s.edges in

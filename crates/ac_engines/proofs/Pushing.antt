@@ -1,42 +1,26 @@
 -- Pushing the words of one state after another.
-use Rattle.std.proofs.Common.{◌≡◌, ◌≢◌, ℕ, ◌+◌, ◌<◌, ◌≤◌, Bool, true, false, List, ◌++◌, drop, length, inl, inr, refl, ap, sym, subst, ◌∙◌, arith, Some, slice_get, rules}
+use Rattle.std.proofs.Common.{◌≡◌, ◌≢◌, ℕ, ◌+◌, ◌<◌, ◌≤◌, Bool, true, false, List, ◌++◌, length, inl, inr, refl, ap, sym, subst, ◌∙◌, arith, Some, slice_get, rules}
 use Rattle.std.proofs.lemmas.Bool.{cases_lt}
 use Rattle.std.proofs.lemmas.List.{append_assoc, append-nil, length-append}
-use Rattle.std.proofs.lemmas.Option.{slice_get_within}
 use Rattle.ac_automaton.specs.Util.{alphabet_len, Node}
-use Rattle.ac_automaton.specs.declared.nfa.noncontiguous.state.TheConstants.{START}
 use Rattle.ac_automaton.proofs.Places.{get-same}
-use Rattle.ac_engines.specs.Prelude.{AreReady, BeginsWith, has_matches, HasPushedWords, node_format, Packer, size_at, size_of, packed_state, state_words}
+use Rattle.ac_engines.specs.Prelude.{AreReady, before, format_for, has_matches, HasPushedUpTo, Packer, size_at, size_of, packed_state, state_words}
 use Rattle.ac_engines.proofs.PackedSums.{total-grows}
-use Rattle.ac_engines.proofs.PlanSums.{before, before-starts, takes}
+use Rattle.ac_engines.proofs.PlanSums.{before-starts, takes}
 use Rattle.ac_engines.proofs.PushedStates.{begins-before, begins-after, length-format_words}
-use Rattle.ac_engines.proofs.PackedNodes.{edges-count, matches-format_words, state-spells}
+use Rattle.ac_engines.proofs.PackedForms.{state-spells}
+use Rattle.ac_engines.proofs.PackedNodes.{edges-count, matches-packed_at}
 
 module _ (f : Packer) (nodes : List Node) where
-  -- the states before one that are asked for were pushed: each stands after those before it
-  pub record HasPushedUpTo (front : Bool) (state : ℕ) (old new : List ℕ) : Type 0 where
-    pub pushed : List ℕ
-    pub same : new ≡ old ++ pushed
-    pub long : length new ≡ length old + before f.plan nodes front state
-    pub each : (s : ℕ) (u : Node) → START ≤ s → s < state → slice_get nodes s ≡ Some u
-        → has_matches f.plan nodes u ≡ front
-        → BeginsWith (drop (length old + before f.plan nodes front s) new)
-        (node_format f.plan.trie.built f.plan.dense_depth u) (alphabet_len f.plan.classes) (packed_state f nodes s u)
-
   -- none was pushed at first
-  pub pushed-none : (front : Bool) (words : List ℕ) → HasPushedUpTo front 2 words words
+  pub pushed-none : (front : Bool) (words : List ℕ) → HasPushedUpTo f nodes front 2 words words
   pushed-none front words = search (rules, append-nil, before-starts)
-
-  -- all were pushed at last
-  pub pushed-all : (front : Bool) (old new : List ℕ) → HasPushedUpTo front (length nodes) old new
-      → HasPushedWords f nodes front old new
-  pushed-all front old new h = search (rules, slice_get_within)
 
   module _ (ready : AreReady f nodes) (front : Bool) (s : ℕ) (u : Node) (reached : 2 ≤ s)
       (named : slice_get nodes s ≡ Some u) where
     -- a state takes as many words as its node
     length-state_words : length (state_words f nodes s u) ≡ size_of f.plan nodes u
-    length-state_words = search (rules, edges-count, length-format_words, matches-format_words, state-spells)
+    length-state_words = search (rules, edges-count, length-format_words, matches-packed_at, state-spells)
 
     -- one that is asked for takes up its words
     grows-asked : (wanted : Bool) → has_matches f.plan nodes u ≡ wanted
@@ -52,9 +36,9 @@ module _ (f : Packer) (nodes : List Node) where
     stays-other false true is other = search (rules, takes f.plan nodes s u reached named true _ (sym is) refl)
     stays-other false false is other = absurd (other refl)
 
-    module _ (old words : List ℕ) (h : HasPushedUpTo front s old words) where
+    module _ (old words : List ℕ) (h : HasPushedUpTo f nodes front s old words) where
       -- one that isn't asked for is passed over
-      pub passed-over : has_matches f.plan nodes u ≢ front → HasPushedUpTo front (s + 1) old words
+      pub passed-over : has_matches f.plan nodes u ≢ front → HasPushedUpTo f nodes front (s + 1) old words
       passed-over other = record {
         pushed = h.pushed;
         same = h.same;
@@ -71,7 +55,7 @@ module _ (f : Packer) (nodes : List Node) where
 
       -- one that is asked for is pushed
       pub pushed-next : (new : List ℕ) → has_matches f.plan nodes u ≡ front → new ≡ words ++ state_words f nodes s u
-          → HasPushedUpTo front (s + 1) old new
+          → HasPushedUpTo f nodes front (s + 1) old new
       pushed-next new input now = record {
         pushed = h.pushed ++ state_words f nodes s u;
         same = now ∙ ap (λ (ws : List ℕ). ws ++ state_words f nodes s u) h.same
@@ -86,7 +70,7 @@ module _ (f : Packer) (nodes : List Node) where
           | inl less ↦
               let most = total-grows (size_at f.plan nodes front) t s (omega arith) in
               let long = h.long in
-              rw now (begins-before (node_format f.plan.trie.built f.plan.dense_depth v) (alphabet_len f.plan.classes)
+              rw now (begins-before (format_for f.plan v) (alphabet_len f.plan.classes)
               (packed_state f nodes t v) words (state_words f nodes s u)
               (length old + before f.plan nodes front t) (omega arith) (h.each t v from less is has))
           | inr more ↦
@@ -94,7 +78,7 @@ module _ (f : Packer) (nodes : List Node) where
               let same : u ≡ v = get-same nodes s u v named (subst (λ n. slice_get nodes n ≡ Some v) at is) in
               let spells = state-spells f nodes ready s u reached named in
               rw (at, sym same, sym h.long)
-              (begins-after (node_format f.plan.trie.built f.plan.dense_depth u) (alphabet_len f.plan.classes)
+              (begins-after (format_for f.plan u) (alphabet_len f.plan.classes)
               (packed_state f nodes s u) words new now spells.fits spells.few spells.below spells.ascending
               spells.few_matches spells.numbers)
         ];

@@ -1,5 +1,5 @@
 -- The commits of a trie are those of an engine, by the numbers that this has for the states of the trie.
-use Rattle.std.proofs.Common.{◌≡◌, ◌≢◌, ℕ, ◌==◌, List, [], ◌∷◌, length, inl, inr, refl, ap, sym, ◌∙◌, subst, arith, get_or, Option, Some, None, slice_get, filter_map}
+use Rattle.std.proofs.Common.{◌≡◌, ◌≢◌, ℕ, ◌==◌, List, [], ◌∷◌, length, inl, inr, refl, ap, sym, ◌∙◌, subst, arith, get_or, Option, Some, None, slice_get, filter_map, if◌then◌else◌, option_map}
 use Rattle.std.proofs.lemmas.Bool.{cases_eq, cond-false, cond-true, eq-eqb, ne_eqb}
 use Rattle.std.proofs.lemmas.List.Sorted.{Contains-permutation, IsPermutation-sym}
 use Rattle.std.proofs.lemmas.Option.{slice_get-get_or, slice_get_within}
@@ -13,17 +13,18 @@ use Rattle.ac_automaton.specs.Commits.{AreCommits, CommitsView, HasCommits, IsCo
 use Rattle.ac_automaton.specs.declared.nfa.noncontiguous.state.TheConstants.{ANCHORED_START, START}
 use Rattle.ac_automaton.specs.Prelude.{AreNodes, AutomatonView, IsNumbered, IsTrie, IsTrieState, matches_of, plain_of, Trie}
 use Rattle.ac_automaton.specs.Tries.{automaton_of}
-use Rattle.ac_engines.specs.Commits.{AreRenumbered, number_in, renumbered_by, renumbered_one, unanchored_state}
+use Rattle.ac_engines.specs.Commits.{AreRenumbered, number_in, renumbered_one}
+use Rattle.std.specs.Option.{option_and_then}
 
 -- the states of an automaton that stand for a table of nodes are these
 pub nodes-known : (trie : Trie) (nodes : List Node) → IsTrie trie nodes → AreNodes trie nodes
 nodes-known trie nodes is = record {
   is_trie = is;
-  numbered = is.numbered;
-  dead = is.states.dead;
-  unreached = is.unreached;
-  start = is.start;
-  anchored_start = is.anchored_start;
+  numbered = is.states.numbered;
+  dead = is.states.meant.dead;
+  unreached = is.states.unreached;
+  start = is.states.start;
+  anchored_start = is.states.anchored_start;
   stands = λ s u named. record { nodes = nodes; is_trie = is; named = named };
 }
 
@@ -55,10 +56,10 @@ renumbered-from numbers (c ∷ commits) commit has = by (renumbered_one numbers 
         → (IsIn commit (filter_map (renumbered_one numbers) commits)
         → (from : Commit) × IsIn from commits × (renumbered_one numbers from ≡ Some commit))
         → (from : Commit) × IsIn from (c ∷ commits) × (renumbered_one numbers from ≡ Some commit)
-    by None e later = let r = later (rw e at has) in (r.0, inr r.1, r.2)
+    by None e later = let (from, among, gives) = later (rw e at has) in (from, inr among, gives)
     by (Some d) e later = elim (let h : IsIn commit (d ∷ filter_map (renumbered_one numbers) commits) = rw e at has in h) [
       | inl same ↦ (c, inl refl, e ∙ ap (λ (x : Commit). Some x) same)
-      | inr more ↦ let r = later more in (r.0, inr r.1, r.2)
+      | inr more ↦ let (from, among, gives) = later more in (from, inr among, gives)
     ]
 
 -- and what each gives is among them
@@ -85,12 +86,17 @@ has-numbers : (numbers : List ℕ) (from commit : Commit) → renumbered_one num
 has-numbers numbers from commit e = by (number_in numbers from.state) (number_in numbers from.next) refl refl e
   where
     by : (s n : Option ℕ) → number_in numbers from.state ≡ s → number_in numbers from.next ≡ n
-        → renumbered_by from s n ≡ Some commit → HasNumbers numbers from commit
+        → option_and_then (λ state. option_map (λ next. record from { state = state; next = next }) n) s ≡ Some commit
+        → HasNumbers numbers from commit
     by None n state next e = absurd cc
     by (Some s) None state next e = absurd cc
     by (Some s) (Some n) state next e = grind (arith, common_steps)
 
--- the anchored start isn't one that unanchored searches know
+-- a state of the trie as unanchored searches know it
+abbrev unanchored_state : ℕ → ℕ
+unanchored_state s = if s == ANCHORED_START then START else s
+
+-- the anchored start isn't one that they know
 unanchored-other : (s : ℕ) → unanchored_state s ≢ ANCHORED_START
 unanchored-other s same = elim (cases_eq s ANCHORED_START) [
   | inl e ↦ absurd (let start = cond-true (s == ANCHORED_START) START s (eq-eqb s ANCHORED_START e) in omega (arith, same, start))
@@ -160,15 +166,15 @@ module _ (trie : Trie) (numbers : List ℕ) (a : AutomatonView)
       record {
         each = λ commit within u stands.
             let before = Contains-permutation new.commits given commit (IsPermutation-sym given new.commits renumbered.same) within in
-            let from = renumbered-from numbers old.commits commit (IsIn-from_Contains commit given before) in
-            let moved = has-numbers numbers from.0 commit from.2 in
+            let (from, among, gives) = renumbered-from numbers old.commits commit (IsIn-from_Contains commit given before) in
+            let moved = has-numbers numbers from commit gives in
             rw renumbered.chains
-            (commit-moved old.chains u from.0 commit moved stands
-            (are.each from.0 (Contains-from_IsIn from.0 old.commits from.1) u
-            (is.stands from.0.state (Some u)
-            (sym (unanchored-named trie nodes is from.0.state)
-            ∙ (numbering nodes is).only (unanchored_state from.0.state) commit.state u
-            (unanchored-other from.0.state) moved.state stands))));
+            (commit-moved old.chains u from commit moved stands
+            (are.each from (Contains-from_IsIn from old.commits among) u
+            (is.stands from.state (Some u)
+            (sym (unanchored-named trie nodes is from.state)
+            ∙ (numbering nodes is).only (unanchored_state from.state) commit.state u
+            (unanchored-other from.state) moved.state stands))));
         all = λ n u stands none others.
             let at = (numbering nodes is).each n u stands in
             let there = is.stands at.state (Some u) at.named in
@@ -176,9 +182,9 @@ module _ (trie : Trie) (numbers : List ℕ) (a : AutomatonView)
             (there.is_trie.lists at.state (Some u) there.named ∙ sym ((numbering nodes is).lists n u stands) ∙ none)
             (λ from within same.
             let c = are.each from within u (rw same there) in
-            let next = numbered-next from.next c.node c.stands in
-            let given-one = given-by from n next.0 at same next.1 in
-            others (record from { state = n; next = next.0 })
+            let (next, number) = numbered-next from.next c.node c.stands in
+            let given-one = given-by from n next at same number in
+            others (record from { state = n; next = next })
             (Contains-permutation given new.commits _ renumbered.same
             (Contains-from_IsIn _ given (renumbered-has numbers old.commits from _ (IsIn-from_Contains from old.commits within)
             given-one))) refl) in
@@ -193,8 +199,8 @@ module _ (trie : Trie) (numbers : List ℕ) (a : AutomatonView)
           let state = unanchored_state s in
           let named = unanchored-named trie stands.nodes known s ∙ stands.named in
           let within = slice_get_within stands.nodes state (Some w) named in
-          let whole = stands.is_trie.whole in
-          let same = is.is_trie.whole in
+          let whole = stands.is_trie.states.whole in
+          let same = is.is_trie.states.whole in
           (get_or numbers state 0, slice_get-get_or numbers state 0 (omega (arith, within, whole, same, long)))
 
       -- the commit of a state has its number

@@ -96,21 +96,19 @@ module _ (built : Built) where
   first_lists-at AnchoredAlone Yes h = refl
   first_lists-at start_kind anchored h = absurd cc
 
-  -- the first two are empty
-  pub first_lists-empty : (start_kind : StartKind) (k : ℕ) → k < 2 → slice_index_or (first_lists start_kind built) k [] ≡ []
-  first_lists-empty start_kind zero h = refl
-  first_lists-empty start_kind (suc zero) h = refl
-  first_lists-empty start_kind (suc (suc k)) h = absurd (omega arith)
-
   -- all four are where the start has no matches
   pub first_lists-none : (start_kind : StartKind) → ((anchored : Anchored) → matches_of built anchored (Some []) ≡ [])
       → (k : ℕ) → k < 4 → slice_index_or (first_lists start_kind built) k [] ≡ []
-  first_lists-none start_kind none zero h = refl
-  first_lists-none start_kind none (suc zero) h = refl
+  first_lists-none Both none zero h = refl
+  first_lists-none Both none (suc zero) h = refl
   first_lists-none Both none (suc (suc zero)) h = none No
   first_lists-none Both none (suc (suc (suc zero))) h = none Yes
+  first_lists-none Unanchored none zero h = refl
+  first_lists-none Unanchored none (suc zero) h = refl
   first_lists-none Unanchored none (suc (suc zero)) h = none No
   first_lists-none Unanchored none (suc (suc (suc zero))) h = refl
+  first_lists-none AnchoredAlone none zero h = refl
+  first_lists-none AnchoredAlone none (suc zero) h = refl
   first_lists-none AnchoredAlone none (suc (suc zero)) h = none Yes
   first_lists-none AnchoredAlone none (suc (suc (suc zero))) h = refl
   first_lists-none start_kind none (suc (suc (suc (suc k)))) h = absurd (omega arith)

@@ -1,11 +1,10 @@
 -- Which states of a trie have rows in a DFA, and that these stand apart.
 use Rattle.std.proofs.Common.{◌≡◌, ◌≢◌, ◌⊎◌, inl, inr, ℕ, zero, suc, ◌+◌, ◌*◌, ◌<◌, ◌≤◌, List, [], ◌∷◌, length, slice_index_or, refl, arith, Some, None, slice_get, rules}
-use Rattle.std.proofs.lemmas.Option.{slice_get_within}
 use Rattle.std.proofs.lemmas.Grind.{common_steps}
 use Rattle.ac_automaton.specs.Util.{alphabet_len, Both, class_at, failure, MatchKind, No, Node, StartKind, Unanchored}
 use Rattle.ac_util.specs.declared.search.StartKind.TheVariants.{Anchored as AnchoredAlone}
 use Rattle.ac_engines.specs.Prelude.{anchored_shift, Filling, HasRow, MayFill, row_at, row_input, width}
-use Rattle.ac_engines.proofs.Numbered.{place-inner, place-start}
+use Rattle.ac_engines.proofs.Numbered.{inner-alive, place-inner, place-start}
 
 -- an unanchored row stands at the place of its state
 pub anchored_shift-none : (start_kind : StartKind) (stride : ℕ) → anchored_shift start_kind No stride ≡ 0
@@ -29,9 +28,7 @@ module _ (f : Filling) (nodes : List Node) (size : ℕ) (may : MayFill f nodes s
   row-of (suc (suc zero)) (Some w) named other = search (rules, anchored_shift-none, place-start)
   row-of (suc (suc (suc zero))) u named other = absurd (other refl)
   row-of (suc (suc (suc (suc t)))) None named other =
-      let within = slice_get_within nodes (suc (suc (suc (suc t)))) None named in
-      let node = (may.are_nodes.numbered.node (suc (suc (suc (suc t)))) (omega arith) within).1.named in
-      absurd cc
+      absurd (inner-alive f.trie nodes may.are_nodes (suc (suc (suc (suc t)))) (omega arith) named)
   row-of (suc (suc (suc (suc t)))) (Some w) named other =
       grind (arith, common_steps, place-inner f.trie nodes may.are_nodes f.numbers (suc (suc (suc (suc t)))) w may.laid.count (omega arith) named)
 
@@ -46,8 +43,8 @@ module _ (f : Filling) (nodes : List Node) (size : ℕ) (may : MayFill f nodes s
   -- each state after the starts has a row
   pub row-at : (s : ℕ) → 4 ≤ s → s < length nodes → (w : List ℕ) × HasRow f nodes size s w
   row-at s inner within =
-      let node = may.are_nodes.numbered.node s inner within in
-      (node.0, record { may = may; named = node.1.named; place = inr inner })
+      let (w, node) = may.are_nodes.numbered.node s inner within in
+      (w, record { may = may; named = node.named; place = inr inner })
 
   -- the rows of two states stand apart
   pub rows-apart : (s t : ℕ) → (s ≡ 2) ⊎ (4 ≤ s) → 4 ≤ t → s < t → t < length f.numbers

@@ -8,7 +8,7 @@ use Rattle.std.proofs.lemmas.List.{get_or_append_left}
 use Rattle.std.proofs.lemmas.List.Elements.{All-drop}
 use Rattle.std.proofs.lemmas.List.FromFn.{length-map-range_with_len}
 use Rattle.std.proofs.lemmas.Grind.{common_steps}
-use Rattle.ac_engines.specs.Prelude.{BeginsWith, class_of_place, class_words, Dense, Edge, edges_from, Format, One, packed_class, Sparse, PackedState, target_by, transitions_of_state, word_of}
+use Rattle.ac_engines.specs.Prelude.{BeginsWith, class_of_place, class_words, Dense, Edge, edges_from, Format, One, Sparse, PackedState, target_by, transitions_of_state, word_of}
 use Rattle.ac_engines.proofs.ClassWords.{edge_classes, targets_of}
 use Rattle.ac_engines.proofs.PackedWords.{after, dense-words, form, form-dense, form-one, form-sparse, one-words, splits-at}
 
@@ -36,17 +36,24 @@ edges-of-all to class zero = refl
 edges-of-all to class (suc n) =
     ap (λ (rest : List Edge). record { class = class; target = to class } ∷ rest) (edges-of-all to (class + 1) n)
 
+-- the class at a place of class words
+abbrev packed_class : List ℕ → ℕ → ℕ
+packed_class words place = slice_index_or (to_le_bytes w32 (slice_index_or words (place / 4) 0)) (place % 4) 0
+
 -- four classes of a word are bytes
-abbrev AreBytes : ℕ → ℕ → ℕ → ℕ → Type 0
-AreBytes a b c d = (a < 256) × (b < 256) × (c < 256) × (d < 256)
+record AreBytes (a b c d : ℕ) : Type 0 where
+  first : a < 256
+  second : b < 256
+  third : c < 256
+  fourth : d < 256
 
 -- each byte of a class word is the class at its place
 byte-of : (a b c d place : ℕ) → AreBytes a b c d → place < 4
     → slice_index_or (to_le_bytes w32 (word_of a b c d)) place 0 ≡ slice_index_or (a ∷ b ∷ c ∷ d ∷ []) place 0
-byte-of a b c d zero bytes low = omega (arith, bytes.0)
-byte-of a b c d (suc zero) bytes low = omega (arith, bytes.0, bytes.1)
-byte-of a b c d (suc (suc zero)) bytes low = omega (arith, bytes.0, bytes.1, bytes.2)
-byte-of a b c d (suc (suc (suc zero))) bytes low = omega (arith, bytes.0, bytes.1)
+byte-of a b c d zero bytes low = omega (arith, bytes.first)
+byte-of a b c d (suc zero) bytes low = omega (arith, bytes.first, bytes.second)
+byte-of a b c d (suc (suc zero)) bytes low = omega (arith, bytes.first, bytes.second, bytes.third)
+byte-of a b c d (suc (suc (suc zero))) bytes low = omega (arith, bytes.first, bytes.second)
 byte-of a b c d (suc (suc (suc (suc place)))) bytes low = absurd (omega (arith, low))
 
 -- the first four places are those of the first word
@@ -71,20 +78,28 @@ unfolding class_words
 packed-class [] place small low = absurd (omega (arith, low))
 packed-class (a ∷ []) place small low =
     let first = small 0 a (omega arith) in
-    packed-first a.class a.class a.class a.class [] place (first, first, first, first) (omega (arith, low))
+    packed-first a.class a.class a.class a.class [] place
+    (record { first = first; second = first; third = first; fourth = first }) (omega (arith, low))
     ∙ get_or_append_left (a.class ∷ []) (a.class ∷ a.class ∷ a.class ∷ []) 0 place low
 packed-class (a ∷ b ∷ []) place small low =
     let last = small 1 b (omega arith) in
-    packed-first a.class b.class b.class b.class [] place (small 0 a (omega arith), last, last, last) (omega (arith, low))
+    packed-first a.class b.class b.class b.class [] place
+    (record { first = small 0 a (omega arith); second = last; third = last; fourth = last }) (omega (arith, low))
     ∙ get_or_append_left (a.class ∷ b.class ∷ []) (b.class ∷ b.class ∷ []) 0 place low
 packed-class (a ∷ b ∷ c ∷ []) place small low =
     let last = small 2 c (omega arith) in
-    packed-first a.class b.class c.class c.class [] place (small 0 a (omega arith), small 1 b (omega arith), last, last)
+    packed-first a.class b.class c.class c.class [] place
+    (record { first = small 0 a (omega arith); second = small 1 b (omega arith); third = last; fourth = last })
     (omega (arith, low))
     ∙ get_or_append_left (a.class ∷ b.class ∷ c.class ∷ []) (c.class ∷ []) 0 place low
 packed-class (a ∷ b ∷ c ∷ d ∷ es) place small low =
     packed-four a.class b.class c.class d.class (class_words (edge_classes es)) (edge_classes es) place
-    (small 0 a (omega arith), small 1 b (omega arith), small 2 c (omega arith), small 3 d (omega arith))
+    (record {
+      first = small 0 a (omega arith);
+      second = small 1 b (omega arith);
+      third = small 2 c (omega arith);
+      fourth = small 3 d (omega arith);
+    })
     (λ k after. packed-class es k (All-drop (λ e. e.class < 256) 4 (a ∷ b ∷ c ∷ d ∷ es) small)
     (omega (arith, low, after)))
 
@@ -115,7 +130,7 @@ module _ (words : List ℕ) (classes : ℕ) (s : PackedState) (targets : List �
       are ∙ ap (λ (ns : List ℕ). take 1 (drop 2 ns)) one.words_are in
       rw (front, same) (sym one.only)
   one-transition Sparse class h says is are =
-      let sparse = form-sparse words classes s h in absurd (omega (arith, sparse.0, sparse.1, says))
+      let sparse = form-sparse words classes s h in absurd (omega (arith, sparse.counts, sparse.few, says))
 
   -- after the class words of a sparse state stand the targets of its transitions
   pub sparse-targets : (transitions count : ℕ) → BeginsWith words Sparse classes s → transitions ≡ length s.edges
@@ -135,7 +150,7 @@ module _ (words : List ℕ) (classes : ℕ) (s : PackedState) (targets : List �
   sparse-transitions One transitions count front h is dense one words_are front_is are =
       absurd (one (is ∙ form-one words classes s h))
   sparse-transitions Sparse transitions count front h is dense one words_are front_is are =
-      let counts = is ∙ (form-sparse words classes s h).0 in
+      let counts = is ∙ (form-sparse words classes s h).counts in
       let split = splits-at words classes s transitions count h counts words_are in
       ap (λ (ns : List ℕ). edges_from (class_of_place (Some front)) 0 ns)
       (sparse-targets transitions count h counts words_are are)

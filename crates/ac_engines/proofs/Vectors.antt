@@ -33,17 +33,21 @@ five-ascend (suc (suc zero)) low = omega arith
 five-ascend (suc (suc (suc zero))) low = omega arith
 five-ascend (suc (suc (suc (suc k)))) low = absurd (omega (arith, low))
 
-five-each : (k : ℕ) (d : Edge) → k < 5
-    → ((slice_index_or five_edges.edges k d).class < 131) × ((slice_index_or five_edges.edges k d).target ≢ FAIL)
-five-each zero d low = (omega arith, omega arith)
-five-each (suc zero) d low = (omega arith, omega arith)
-five-each (suc (suc zero)) d low = (omega arith, omega arith)
-five-each (suc (suc (suc zero))) d low = (omega arith, omega arith)
-five-each (suc (suc (suc (suc zero)))) d low = (omega arith, omega arith)
+-- each transition has a class and a target
+record IsAmongFive (e : Edge) : Type 0 where
+  below : e.class < 131
+  named : e.target ≢ FAIL
+
+five-each : (k : ℕ) (d : Edge) → k < 5 → IsAmongFive (slice_index_or five_edges.edges k d)
+five-each zero d low = record { below = omega arith; named = omega arith }
+five-each (suc zero) d low = record { below = omega arith; named = omega arith }
+five-each (suc (suc zero)) d low = record { below = omega arith; named = omega arith }
+five-each (suc (suc (suc zero))) d low = record { below = omega arith; named = omega arith }
+five-each (suc (suc (suc (suc zero)))) d low = record { below = omega arith; named = omega arith }
 five-each (suc (suc (suc (suc (suc k))))) d low = absurd (omega (arith, low))
 
 pub five-named : AreNamed five_edges.edges
-five-named k d low = (five-each k d low).1
+five-named k d low = (five-each k d low).named
 
 six-numbers : (k : ℕ) → slice_index_or (6 ∷ []) k 0 < ONE_MATCH
 six-numbers zero = omega arith
@@ -55,7 +59,7 @@ sparse_words = 5 ∷ 40 ∷ 201918211 ∷ 336860180 ∷ 100 ∷ 110 ∷ 120 ∷ 
 pub sparse-begins : BeginsWith sparse_words Sparse 131 five_edges
 unfolding format_words class_words
 sparse-begins =
-    by_hand _ _ _ _ refl (omega arith, refl) (omega arith) (λ k d low. (five-each k d low).0) five-ascend (omega arith) six-numbers
+    by_hand _ _ _ _ refl (omega arith, refl) (omega arith) (λ k d low. (five-each k d low).below) five-ascend (omega arith) six-numbers
 
 -- one transition
 abbrev pub one_edge : PackedState

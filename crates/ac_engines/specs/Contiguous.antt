@@ -2,6 +2,7 @@
 pub mod Builds
 pub mod Packs
 pub mod Plans
+pub mod Reads
 pub mod Words
 use Rattle.std.specs.Prelude.{◌≡◌, ◌≢◌, ℕ, ◌<◌, ◌≤◌, ◌↔◌, ◌+◌, ◌-◌, ◌/◌, ◌%◌, ◌==◌, ◌&&◌, nat_lt, if◌then◌else◌, Bool, List, [], ◌∷◌, ◌++◌, drop, length, map, slice_index_or, take, Some, None}
 use Rattle.ac_automaton.specs.Util.{alphabet_len, AreClasses, Both, Built, class_at, Counts, GREATEST, IsNode, longest_len, more_looks, No, Node, plain_byte, SetsApart, Yes}
@@ -64,6 +65,10 @@ match_list_at p s =
     then matches_in (drop (s + words_before_matches (slice_index_or p.words s 0 % 256) (alphabet_len p.classes)) p.words)
     else []
 
+-- what the dead state spells: every class leads to itself
+abbrev pub packed_dead : PackedState
+packed_dead = record { failure = 0; default_target = 0; edges = []; matches = [] }
+
 module _ (p : ContiguousView) (at : Places) where
   -- the transitions of a string: each byte that leads on, with the string that is longer by it
   abbrev pub edges_of : List ℕ → List Edge
@@ -82,19 +87,15 @@ module _ (p : ContiguousView) (at : Places) where
     matches = matches_of p.built No (Some w);
   }
 
-  -- the starts lead somewhere by each class or by none, and have no failure target; an unanchored search goes on at
-  -- its start, unless an empty pattern has begun its match
-  abbrev pub packed_start : Anchored → PackedState
-  packed_start No = record (packed_node []) {
+  -- what the state of a node spells: the starts have no failure target, and an unanchored search goes on at its start,
+  -- unless an empty pattern has begun its match
+  abbrev pub packed_at : Anchored → Node → PackedState
+  packed_at anchored None = packed_dead
+  packed_at No (Some []) = record (packed_node []) {
     failure = 0;
     default_target = number_at at No (fallback p.built.kind (plain_of p.built) (Some []));
   }
-  packed_start Yes = record (packed_node []) { failure = 0 }
-
-  -- what the state of a node spells: from the dead one every class leads to itself
-  abbrev pub packed_at : Anchored → Node → PackedState
-  packed_at anchored None = record { failure = 0; default_target = 0; edges = []; matches = [] }
-  packed_at anchored (Some []) = packed_start anchored
+  packed_at Yes (Some []) = record (packed_node []) { failure = 0 }
   packed_at anchored (Some (x ∷ w)) = packed_node (x ∷ w)
 
   -- the words stand for the nodes: each has a state, after the number that is no target but for the dead one, whose

@@ -23,8 +23,10 @@ mod builder;
 mod fill;
 mod layout;
 mod lists;
+mod table;
 
-pub use builder::{Builder, table_len};
+pub use builder::Builder;
+pub use table::table_len;
 
 /// The number of the dead state: nothing is found from it on.
 const DEAD: usize = 0;

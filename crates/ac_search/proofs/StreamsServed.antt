@@ -4,7 +4,7 @@ use Rattle.std.specs.Borrow.{Bor, MutBor}
 use Rattle.std.specs.Fn.{Mut}
 use Rattle.std.specs.declared.io.Error.{Error}
 use Rattle.std.proofs.lemmas.Grind.{common_steps}
-use Rattle.ac_automaton.specs.Util.{AnswersStream, AreDecided, Both, Built, FailsToReplace, FailsToReplaceWith, IsSettled, IsSettledAt, IsSettledBy, LeftmostFirst, LeftmostLongest, MatchKind, No, NoneOpen, Occurrence, Reading, ReplacesStream, ReplacesStreamWith, Standard, start_refusal, StartKind, StepsAreSettled, stream_refusal, StreamError, TextIsSettled, Writing}
+use Rattle.ac_automaton.specs.Util.{AnswersStream, AreDecided, Both, Built, FailsToReplace, FailsToReplaceWith, IsSettled, IsSettledAt, IsSettledBefore, IsSettledBy, LeftmostFirst, LeftmostLongest, MatchKind, No, NoneOpen, Occurrence, Reading, ReplacesStream, ReplacesStreamWith, Standard, start_refusal, StartKind, StepsAreSettled, stream_refusal, StreamError, TextIsSettled, Writing}
 use Rattle.ac_search.proofs.Served.{stream-refusals}
 
 module _ (engine : Built) (start_kind : StartKind) where
@@ -40,6 +40,16 @@ module _ (engine : Built) (start_kind : StartKind) where
     settled-in bytes given place (inl (some, is)) = inl (some, settled-by engine.kind bytes given place is)
     settled-in bytes given place (inr all) = inr all
 
+    settled-first : (bytes : List ℕ) {before : List ℕ} {given place : ℕ} → IsSettledBefore engine bytes before given place
+        → IsSettledBefore searcher bytes before given place
+    settled-first bytes {before} {given} {place} first = record {
+      last = first.last;
+      whole = first.whole;
+      short = first.short;
+      settled = settled-by engine.kind before given place first.settled;
+      near = first.near;
+    }
+
     -- with a list of texts
     module _ (texts : List (List ℕ)) (writer new_writer : Writing) where
       text : (bytes : List ℕ) → TextIsSettled engine texts writer new_writer bytes
@@ -56,8 +66,32 @@ module _ (engine : Built) (start_kind : StartKind) where
       replaced (Err e) (inl refused) = grind (arith, common_steps)
       replaced (Err e) (inr (allowed, (bytes, inl (reads, settled), small))) =
           inr (refusals ∙ allowed, (bytes, inl (reads, text bytes settled), small))
-      replaced (Err e) (inr (allowed, (bytes, inr (given, place, settled, writes), small))) =
-          inr (refusals ∙ allowed, (bytes, inr (given, place, settled-in bytes given place settled, writes), small))
+      replaced (Err e) (inr (allowed, (bytes, inr fails, small))) =
+          inr (
+            refusals ∙ allowed,
+            (
+              bytes,
+              inr (record {
+                given = fails.given;
+                place = fails.place;
+                settled = settled-in bytes fails.given fails.place fails.settled;
+                failure = fails.failure;
+                is = fails.is;
+                writes = fails.writes;
+                first = record {
+                  before = fails.first.before;
+                  given = fails.first.given;
+                  place = fails.first.place;
+                  settled = settled-first bytes fails.first.settled;
+                  between = fails.first.between;
+                  written = fails.first.written;
+                  more = fails.first.more;
+                  later = fails.first.later;
+                };
+              }),
+              small,
+            ),
+          )
 
       -- what an automaton built as the engine leaves is what the searcher leaves
       pub replaced-served : {built seen : Built} → built ≡ engine → searcher ≡ seen → (r : Result (Unit {0}) StreamError)
@@ -81,7 +115,32 @@ module _ (engine : Built) (start_kind : StartKind) where
       exchanged : (r : Result (Unit {0}) StreamError) → Exchanges engine r → Exchanges searcher r
       exchanged (Ok done) h = (refusals ∙ h.0, h.1)
       exchanged (Err e) (inl refused) = grind (arith, common_steps)
-      exchanged (Err e) (inr fails) = search (rules, refusals, settled-by, steps)
+      exchanged (Err e) (inr (allowed, (bytes, inl (reads, settled), small))) =
+          inr (refusals ∙ allowed, (bytes, inl (reads, steps bytes settled), small))
+      exchanged (Err e) (inr (allowed, (bytes, inr fails, small))) =
+          inr (
+            refusals ∙ allowed,
+            (
+              bytes,
+              inr (record {
+                given = fails.given;
+                place = fails.place;
+                settled = settled-in bytes fails.given fails.place fails.settled;
+                steps = fails.steps;
+                first = record {
+                  before = fails.first.before;
+                  count = fails.first.count;
+                  from = fails.first.from;
+                  settled = settled-first bytes fails.first.settled;
+                  between = fails.first.between;
+                  made = fails.first.made;
+                  left = fails.first.left;
+                  others = fails.first.others;
+                };
+              }),
+              small,
+            ),
+          )
 
       -- what an automaton built as the engine leaves is what the searcher leaves
       pub exchanged-served : {built seen : Built} → built ≡ engine → searcher ≡ seen → (r : Result (Unit {0}) StreamError)

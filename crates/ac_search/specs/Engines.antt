@@ -2,7 +2,8 @@
 use Rattle.std.specs.Prelude.{◌≡◌, ◌⊎◌, Bool, MatchResult, None, Option, Result}
 use Rattle.ac_automaton.specs.Util.{Both, BuildError, Built, Occurrence, Reading, StartKind, StreamError}
 use Rattle.ac_automaton.specs.Builds.{IsRefused}
-use Rattle.ac_automaton.specs.Prelude.{Overlapping, Streaming, StreamsOn, Trie, Walking}
+use Rattle.ac_automaton.specs.Prelude.{Overlapping, Streaming, Streams, Trie, Walking}
+use Rattle.ac_automaton.specs.Streams.{on}
 use Rattle.ac_search.specs.declared.ahocorasick.choice.AhoCorasickKind.{AhoCorasickKind}
 use Rattle.ac_search.specs.declared.ahocorasick.choice.AhoCorasickKind.TheVariants.{ContiguousNFA, DFA, NoncontiguousNFA}
 use Rattle.ac_search.specs.declared.ahocorasick.engine.Engine.{Engine}
@@ -83,7 +84,7 @@ streaming_in (StreamedByDfa finder) = finder
 
 -- what a call answers that gives the next match of the stream, by the search of an engine. `read` gives what is seen of the
 -- reader
-abbrev pub EngineStreamsOn : {R Y Z : Type 0} → Bool → (R → Reading) → EngineStreamFinder Y Z
+abbrev pub EngineStreams : {R Y Z : Type 0} → Bool → (R → Reading) → EngineStreamFinder Y Z
     → Option (Result Occurrence StreamError) → EngineStreamFinder Y Z → R → R → Type 0
-EngineStreamsOn ends read old result new reader new_reader =
-    StreamsOn ends (streaming_in old) result (streaming_in new) (read reader) (read new_reader)
+EngineStreams ends read old result new reader new_reader =
+    Streams ends (on read (streaming_in old) reader) result (on read (streaming_in new) new_reader)

@@ -7,7 +7,7 @@ ghost use Rattle.ac_util.specs.Stream.{AlwaysWritesOut, by_length, text_of};
 ghost use Rattle.ac_automaton.specs.Util.{AreTexts, InputView, input_of, Built, find_refusal, find_result, has_empty, LiesIn, MatchKind, Occurrence, shortest_len, StartKind, stream_result, walk_result};
 ghost use Rattle.ac_automaton.specs.Iterators.{GoesOn};
 ghost use Rattle.ac_automaton.specs.Overlaps.{ListsNext};
-ghost use Rattle.ac_automaton.specs.Streams.{GivesStreamItem, items_left};
+ghost use Rattle.ac_automaton.specs.Streams.{Streams, items_left};
 ghost use Rattle.ac_search.specs.Alike.{ClosuresWrite, ListsWrite, UnchangedBegins, BuildAlike, FindAlike, ListAlike, ReplaceAlike, SettlesAlike, StreamAlike, EndsAtError, LeavesLess, StaysEnded, EndsInside, FindsOnly, IsNumberedBelow, ListsOnly, SomeOccurs, StandApart, StandInOrder, StandsBetweenCharacters, WalksApart, WalksFew, WalksOnly, WalksInOrder, AreWords};
 ghost use Rattle.ac_search.specs.Searchers.{Settings};
 ghost use Rattle.ac_search.specs.StreamLoops.{BeginsUnderway, ErrorLeavesSettled, MatchGoesOn, NoneEnds};
@@ -166,8 +166,8 @@ pub fn settings_change_no_answer()
 pub fn ended_iterators_stay_ended()
     ensures walk { StaysEnded GoesOn }
     ensures listing { StaysEnded ListsNext }
-    ensures stream { (ends : Bool) → StaysEnded (GivesStreamItem ends) }
-    ensures failed { (ends : Bool) → EndsAtError (GivesStreamItem ends) }
+    ensures stream { (ends : Bool) → StaysEnded (Streams ends) }
+    ensures failed { (ends : Bool) → EndsAtError (Streams ends) }
 {}
 
 /// Every iterator ends, since each item leaves fewer that may follow: of a walk, of a listing, and of a stream, whatever its
@@ -177,7 +177,7 @@ pub fn ended_iterators_stay_ended()
 pub fn iterators_end()
     ensures walk { LeavesLess (λ w. length w.rest) GoesOn }
     ensures listing { LeavesLess (λ l. length l.rest) ListsNext }
-    ensures stream { (ends : Bool) → LeavesLess items_left (GivesStreamItem ends) }
+    ensures stream { (ends : Bool) → LeavesLess items_left (Streams ends) }
 {}
 
 /// What a loop over `StreamFinder::next` has seen. A search that begins is under way and has given no match. Each match that it

@@ -210,10 +210,10 @@ module _ {F D : Type 0} (told : D → Writing)
       read-begins built write ends reader new_reader (told old) (told new) bytes given place e served fails settled
       (steps-write told closures write writes (take place bytes) 0 (take given (stream_result built bytes))
       (record { closure = closure; destination = old }) (record { closure = left; destination = new }) steps)
-  closure-begun built write ends reader new_reader closure old new e writes served (bytes, inr (given, place, settled, (left, steps)), small) =
-      part-begins built write ends reader new_reader (told old) (told new) bytes given place served settled
-      (steps-begin told closures write writes (take place bytes) 0 (take given (stream_result built bytes))
-      (record { closure = closure; destination = old }) (record { closure = left; destination = new }) (Some e) steps)
+  closure-begun built write ends reader new_reader closure old new e writes served (bytes, inr fails, small) =
+      part-begins built write ends reader new_reader (told old) (told new) bytes fails.given fails.place served fails.settled
+      (steps-begin told closures write writes (take fails.place bytes) 0 (take fails.given (stream_result built bytes))
+      (record { closure = closure; destination = old }) (record { closure = fails.steps.0; destination = new }) (Some e) fails.steps.1)
 
 -- by a list of texts
 module _ (built : Built) (texts : List (List ℕ)) (ends : Bool) (reader new_reader : Reading) (old new : Writing) where
@@ -226,9 +226,9 @@ module _ (built : Built) (texts : List (List ℕ)) (ends : Bool) (reader new_rea
       → ExchangesBeginning built (text_of texts) ends reader new_reader old new
   texts-begun e served (bytes, inl (fails, (given, place, settled, near, all)), small) =
       read-begins built (text_of texts) ends reader new_reader old new bytes given place e served fails settled all
-  texts-begun e served (bytes, inr (given, place, settled, (failure, is, fails)), small) =
-      part-begins built (text_of texts) ends reader new_reader old new bytes given place served settled
-      (begins-failed old new (exchanged_to built (text_of texts) bytes given place) failure fails)
+  texts-begun e served (bytes, inr fails, small) =
+      part-begins built (text_of texts) ends reader new_reader old new bytes fails.given fails.place served fails.settled
+      (begins-failed old new (exchanged_to built (text_of texts) bytes fails.given fails.place) fails.failure fails.writes)
 
 -- where matches are exchanged for the same, what is written is the same
 module _ (built : Built) (write other : Occurrence → List ℕ → List ℕ)

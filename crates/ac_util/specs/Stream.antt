@@ -11,7 +11,7 @@ use Rattle.ac_util.specs.Patterns.{longest_len, usize_max}
 use Rattle.ac_util.specs.Node.{participates}
 use Rattle.std.specs.Borrow.{Bor, MutBor}
 use Rattle.std.specs.Fn.{Mut}
-use Rattle.std.specs.Io.KnownBytes.{Consumes}
+use Rattle.std.specs.Io.KnownBytes.{Appends, Consumes}
 use Rattle.std.specs.declared.io.Error.{Error}
 use Rattle.ac_util.specs.declared.error.MatchError.{MatchError}
 use Rattle.ac_util.specs.declared.search.MatchKind.{MatchKind}
@@ -127,6 +127,15 @@ IsSettled ends built old new bytes given place =
     (ReadsSome old new bytes × IsSettledBy built.kind built bytes given place)
     ⊎ (ReadsAll ends old new bytes × (given ≡ length (stream_result built bytes)) × (place ≡ length bytes))
 
+-- the last of these bytes, no more than a buffer has, came by one read; by those before it the stream was settled as far as an
+-- offset by so many of their matches
+pub record IsSettledBefore (built : Built) (bytes before : List ℕ) (given place : ℕ) : Type 0 where
+  pub last : List ℕ
+  pub whole : bytes ≡ before ++ last
+  pub short : length last ≤ buffer_len built.patterns
+  pub settled : IsSettledBy built.kind built before given place
+  pub near : IsNear built before place
+
 module _ {F D : Type 0} (told : D → Writing) where
   -- the bytes are written, all of them; or a beginning of them, and then a write has failed or took nothing
   abbrev pub WritesPiece : List ℕ → Replacing F D → Option StreamError → Replacing F D → Type 0
@@ -145,11 +154,15 @@ answer_of_result (Err e) = Fails (Io e)
 module _ {F D : Type 0} (told : D → Writing)
     (closures : Mut F (Bor Occurrence × (Bor (List ℕ) × (MutBor D × Unit {0})))
     (Result (Unit {0}) Error × (MutBor D × Unit {0}))) (built : Built) (closure : F) (old : D) where
+  -- the steps that exchange these matches of some bytes, from an offset on
+  abbrev pub StreamSteps : List ℕ → ℕ → List Occurrence → Replacing F D → Option StreamError → Replacing F D → Type 0
+  StreamSteps bytes from ms s end t =
+      ReplacementSteps (WritesPiece told) (Calls closures) answer_of_result bytes from ms s end t
+
   -- the steps that exchange these matches of some bytes by a closure, as far as an offset, lead a writer from `old` to `new`
   abbrev pub StreamStepsLead : List ℕ → List Occurrence → ℕ → Option StreamError → D → Type 0
   StreamStepsLead bytes ms place end new =
-      (left : F) × ReplacementSteps (WritesPiece told) (Calls closures) answer_of_result (take place bytes) 0
-      ms (record { closure = closure; destination = old }) end
+      (left : F) × StreamSteps (take place bytes) 0 ms (record { closure = closure; destination = old }) end
       (record { closure = left; destination = new })
 
   -- the stream was read to its end, usize counts its bytes, and all of its steps were made
@@ -164,14 +177,35 @@ module _ {F D : Type 0} (told : D → Writing)
       (given place : ℕ) × IsSettledBy built.kind built bytes given place × IsNear built bytes place
       × StreamStepsLead bytes (take given (stream_result built bytes)) place None new
 
+  -- the steps over these bytes as far as an offset have ended with an error: those for what was settled before the last read were
+  -- made before it, and the others after it
+  pub record HasMadeFirst (bytes : List ℕ) (given place : ℕ) (new : D) (e : StreamError) : Type 0 where
+    pub before : List ℕ
+    pub count : ℕ
+    pub from : ℕ
+    pub settled : IsSettledBefore built bytes before count from
+    pub between : Replacing F D
+    pub made : StreamSteps (take from before) 0 (take count (stream_result built before))
+        (record { closure = closure; destination = old }) None between
+    pub left : F
+    pub others : StreamSteps (take place bytes) from (drop count (take given (stream_result built bytes))) between
+        (Some e) (record { closure = left; destination = new })
+
+  -- a write has failed, or took nothing, or the closure has failed: no step was made after that, and nothing was read
+  pub record FailsAtStep (ends : Bool) (reader new_reader : Reading) (bytes : List ℕ) (new : D) (e : StreamError) : Type 0 where
+    pub given : ℕ
+    pub place : ℕ
+    pub settled : IsSettled ends built reader new_reader bytes given place
+    pub steps : StreamStepsLead bytes (take given (stream_result built bytes)) place (Some e) new
+    pub first : HasMadeFirst bytes given place new e
+
   -- a read has failed, or brought more than usize counts, which counts all before it: the steps were made as far as the
   -- stream is settled. Or a write has failed, or took nothing, or the closure has failed: no step was made after that
   abbrev pub FailsToReplaceWith : Bool → Reading → Reading → D → StreamError → Type 0
   FailsToReplaceWith ends reader new_reader new e =
       (bytes : List ℕ)
       × ((FailsToRead 0 reader new_reader bytes e × StepsAreSettled bytes new)
-      ⊎ ((given place : ℕ) × IsSettled ends built reader new_reader bytes given place
-      × StreamStepsLead bytes (take given (stream_result built bytes)) place (Some e) new))
+      ⊎ FailsAtStep ends reader new_reader bytes new e)
       × (length bytes ≤ usize_max)
 
 -- the text of the pattern of a match
@@ -208,16 +242,35 @@ module _ (built : Built) (texts : List (List ℕ)) (old new : Writing) where
       (given place : ℕ) × IsSettledBy built.kind built bytes given place × IsNear built bytes place
       × WritesAll old new (exchanged_to built (text_of texts) bytes given place)
 
+  -- the replaced text was written before the last read as far as the stream was settled then
+  pub record HasWrittenFirst (bytes : List ℕ) : Type 0 where
+    pub before : List ℕ
+    pub given : ℕ
+    pub place : ℕ
+    pub settled : IsSettledBefore built bytes before given place
+    pub between : Writing
+    pub written : WritesAll old between (exchanged_to built (text_of texts) before given place)
+    pub more : List ℕ
+    pub later : Appends between.written new.written more
+
+  -- a write has failed, or took nothing: a beginning of the replaced text was written as far as the stream is settled, and nothing
+  -- was read after that
+  pub record FailsAtWrite (ends : Bool) (reader new_reader : Reading) (bytes : List ℕ) (e : StreamError) : Type 0 where
+    pub given : ℕ
+    pub place : ℕ
+    pub settled : IsSettled ends built reader new_reader bytes given place
+    pub failure : WriteError
+    pub is : e ≡ error_of failure
+    pub writes : WritesUntilFailure old new (exchanged_to built (text_of texts) bytes given place) failure
+    pub first : HasWrittenFirst bytes
+
   -- a read has failed, or brought more than usize counts, which counts all before it: the replaced text was written as far
-  -- as the stream is settled. Or a write has failed, or took nothing: a beginning of the replaced text was written as far as
-  -- the stream is settled
+  -- as the stream is settled. Or a write has failed
   abbrev pub FailsToReplace : Bool → Reading → Reading → StreamError → Type 0
   FailsToReplace ends reader new_reader e =
       (bytes : List ℕ)
       × ((FailsToRead 0 reader new_reader bytes e × TextIsSettled bytes)
-      ⊎ ((given place : ℕ) × IsSettled ends built reader new_reader bytes given place
-      × ((failure : WriteError) × (e ≡ error_of failure)
-      × WritesUntilFailure old new (exchanged_to built (text_of texts) bytes given place) failure)))
+      ⊎ FailsAtWrite ends reader new_reader bytes e)
       × (length bytes ≤ usize_max)
 
 module _ (built : Built) (write : Occurrence → List ℕ → List ℕ) (ends : Bool) (reader new_reader : Reading)

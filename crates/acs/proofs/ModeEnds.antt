@@ -103,15 +103,16 @@ module _ (built : Built) (texts : List (List ℕ)) (ends : Bool) (reader new_rea
         → FailsToAnswer ends StreamReplace built texts reader new_reader writer new_writer fault
     replacing-fails e fault is served (bytes, inl read, small) =
         inr (served, record { bytes = bytes; cause = inl (e, is, read.0, read.1) })
-    replacing-fails e fault is served (bytes, inr (given, place, settled, (failure, why, fails)), small) =
+    replacing-fails e fault is served (bytes, inr fails, small) =
         inr (
           served,
           record {
             bytes = bytes;
             cause = inr (
-              reads-in bytes given place settled,
-              write-fails failure (is ∙ ap stream_fault_of why)
-                  (fails-whole failure (whole-of bytes given place (nonempty-served built served) settled) fails),
+              reads-in bytes fails.given fails.place fails.settled,
+              write-fails fails.failure (is ∙ ap stream_fault_of fails.is)
+                  (fails-whole fails.failure
+                  (whole-of bytes fails.given fails.place (nonempty-served built served) fails.settled) fails.writes),
             );
           },
         )

@@ -4,6 +4,7 @@ ghost use Rattle.ac_automaton.specs.Util.{Standard, start_refusal};
 ghost use Rattle.ac_automaton.specs.Answers.{BeginsFinder};
 ghost use Rattle.ac_automaton.specs.Finds.{asked, between, finding_of, FindsIn, found_by, MaySearch};
 ghost use Rattle.ac_automaton.specs.Onward.{BeginsOnward};
+ghost use Rattle.ac_automaton.specs.Scans.{tape_with};
 
 use super::Automaton;
 use super::onward::{Core, Onward, Position};
@@ -41,7 +42,7 @@ pub fn find_core<A: Automaton>(
     requires may { MaySearch (between start end) tape.old }
     ensures pick { result ≡ found_by (A.seen automaton.now) (asked tape.old.bytes start end anchored earliest) }
     ensures finds { FindsIn (finding_of (A.seen automaton.now) anchored earliest) (between start end)
-        tape.old looks.old result tape.new looks.new }
+        (tape_with tape.old looks.old) result (tape_with tape.new looks.new) }
 {
     let Ok(mut finder) = Finder::new(automaton, anchored, earliest) else {
         unreachable!()
@@ -138,7 +139,7 @@ impl<'a, A: Automaton> Finder<'a, A> {
     #[inline]
     pub fn find(&mut self, span: Span, tape: &mut Tape<'_>, looks: &mut Looks) -> Option<Match>
         requires { MaySearch span tape.old }
-        ensures finds { FindsIn self.old span tape.old looks.old result tape.new looks.new }
+        ensures finds { FindsIn self.old span (tape_with tape.old looks.old) result (tape_with tape.new looks.new) }
         ensures same { self.new ≡ self.old }
     {
         if span.start > span.end {
@@ -151,13 +152,13 @@ impl<'a, A: Automaton> Finder<'a, A> {
         self.core.find_first(&mut self.here, tape, looks)
     }
 
-    /// Returns what `find` does where each match that is picked begins where the span does. It isn't part of `find`, which so stays
-    /// short.
+    /// Returns what `find` does where each match that is picked begins where the span does: it reads on from match to match, until the
+    /// last one can't change, or up to the first if it stops there. It isn't part of `find`, which so stays short.
     #[inline(never)]
     fn find_front(&self, span: Span, tape: &mut Tape<'_>, looks: &mut Looks) -> Option<Match>
         requires may { MaySearch span tape.old }
         requires some { span.start ≤ span.end }
-        ensures finds { FindsIn self.now span tape.old looks.old result tape.new looks.new }
+        ensures finds { FindsIn self.now span (tape_with tape.old looks.old) result (tape_with tape.new looks.new) }
     {
         let scanner = Scanner {
             automaton: self.core.automaton,
@@ -165,44 +166,24 @@ impl<'a, A: Automaton> Finder<'a, A> {
             stops: true,
             span,
         };
-        let start = Cursor {
+        let mut here = Cursor {
             state: self.core.start,
             at: span.start,
         };
-        scanner.find_front(self.core.stops, start, tape, looks)
+        let mut last = scanner.match_at(&here);
+        while !scanner.is_decided(self.core.stops, &here, &last) {
+            let dead = scanner.read(&mut here, tape, looks);
+            here.enter(dead);
+            last = scanner.match_at(&here).or(last);
+        }
+        last
     }
 }
 
 impl<'a, A: Automaton> Scanner<'a, A> {
     ghost use Rattle.ac_automaton.specs.Automata.{IsState};
-    ghost use Rattle.ac_automaton.specs.Finds.{FindsOn, MayFind, TellsAnswer};
+    ghost use Rattle.ac_automaton.specs.Finds.{TellsAnswer};
     ghost use Rattle.ac_automaton.specs.Scans.{scanner};
-
-    /// Returns the pick of the span where it begins at the span's start, by reading on from match to match: until it can't change, or
-    /// up to the first match if it stops there.
-    #[inline]
-    fn find_front(
-        &self,
-        stops: bool,
-        cursor: Cursor,
-        tape: &mut Tape<'_>,
-        looks: &mut Looks,
-    ) -> Option<Match>
-        requires reads { self.now.stops ≡ true }
-        requires may { MayFind (scanner A.seen self.now) stops tape.old cursor }
-        ensures { FindsOn (scanner A.seen self.now) stops cursor tape.old looks.old result tape.new looks.new }
-    {
-        // A copy, which stays in registers.
-        let mut copied = cursor;
-        let here = &mut copied;
-        let mut last = self.match_at(here);
-        while !self.is_decided(stops, here, &last) {
-            let dead = self.read(here, tape, looks);
-            here.enter(dead);
-            last = self.match_at(here).or(last);
-        }
-        last
-    }
 
     /// Returns whether the last match found is the answer: nothing is left to read, nothing more is found, or the
     /// first match counts.

@@ -60,6 +60,7 @@ impl<'a, A: Automaton> Scanner<'a, A> {
     }
 
     /// Takes the next match of the current state, or returns None where there is none.
+    // The match isn't made by `match_ending`, which would look the length up a second time.
     #[inline]
     fn take_due(&self, reached: &mut Reached) -> Option<Match>
         requires { HasComeTo (scanner A.seen self.now) reached.old }

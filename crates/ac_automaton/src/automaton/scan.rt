@@ -10,6 +10,7 @@ ghost use Rattle.ac_automaton.specs.Reads.{MayScan, Scans, StopsAt, TriesAt, at,
 ghost use Rattle.ac_automaton.specs.Scans.{TellsOver, scanner, work_of};
 
 use super::Automaton;
+use super::onward::match_ending;
 use ac_util::looks::{Looks, Tape};
 use ac_util::primitives::StateID;
 use ac_util::search::{Anchored, Match, Span};
@@ -198,18 +199,11 @@ impl<'a, A: Automaton> Scanner<'a, A> {
         if !self.automaton.is_match(cursor.state) {
             return None;
         }
-        let end = cursor.at;
         let pattern = self.automaton.match_pattern(cursor.state, 0);
         let len = self.automaton.pattern_len(pattern);
-        if !is_due(self.anchored, len, end - self.span.start) {
+        if !is_due(self.anchored, len, cursor.at - self.span.start) {
             return None;
         }
-        Some(Match::new(
-            pattern,
-            Span {
-                start: end - len,
-                end,
-            },
-        ))
+        Some(match_ending(self.automaton, pattern, cursor.at))
     }
 }

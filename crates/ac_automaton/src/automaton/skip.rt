@@ -5,8 +5,8 @@
 ghost use Rattle.std.specs.Prelude.{◌≤◌, ◌<◌, ◌≡◌, false, true, IfSome, None};
 ghost use Rattle.ac_util.specs.Prefilters.{first_bytes_of};
 ghost use Rattle.ac_automaton.specs.Automata.{IsState};
-ghost use Rattle.ac_automaton.specs.Reads.{IsAtStart, MayScan, Moves, Scans, Seeks, at};
-ghost use Rattle.ac_automaton.specs.Scans.{Advances, MayAdvance, scanner, SkipsTo};
+ghost use Rattle.ac_automaton.specs.Reads.{GoesAhead, IsAtStart, MayScan, Moves, Scans, Seeks, at};
+ghost use Rattle.ac_automaton.specs.Scans.{MayAdvance, scanner, SkipsTo};
 
 use super::Automaton;
 use super::scan::{Cursor, Dead, Scanner};
@@ -137,7 +137,7 @@ impl<'a, A: Automaton> Scanner<'a, A> {
         requires stops { self.now.stops ≡ true }
         requires skips { IfSome first (λ f. SkipsTo (scanner A.seen self.now).scan (first_bytes_of f)) }
         requires may { MayAdvance (scanner A.seen self.now) tape.old cursor.old }
-        ensures { Advances (scanner A.seen self.now) cursor.old tape.old looks.old cursor.new tape.new looks.new }
+        ensures { GoesAhead A.seen self.now (at cursor.old tape.old looks.old) (at cursor.new tape.new looks.new) }
     {
         let dead = self.read_to_match_or_skip(first, cursor, budget, tape, looks);
         cursor.enter(dead);
@@ -203,37 +203,16 @@ impl<'a, A: Automaton> Scanner<'a, A> {
         // A copy, which stays in registers.
         let mut copied = *cursor;
         let here = &mut copied;
-        while here.at < self.span.end {
-            let dead = self.read_piece(first, here, budget, tape, looks);
+        loop {
+            if let ToStart::Stopped(dead) = self.read_to_start(here, budget, tape, looks) {
+                *cursor = *here;
+                return dead;
+            }
+            let dead = self.skip(first, here, budget, tape, looks);
             if dead.is_some() || self.is_to_stop(here.state) {
                 *cursor = *here;
                 return dead;
             }
-        }
-        *cursor = *here;
-        None
-    }
-
-    /// Reads on by a piece: it skips ahead to the first bytes where the automaton is at its start and that pays, or reads on
-    /// without the prefilter for a while.
-    #[inline]
-    fn read_piece(
-        &self,
-        first: FirstBytes,
-        cursor: &mut Cursor,
-        budget: &mut SkipBudget,
-        tape: &mut Tape<'_>,
-        looks: &mut Looks,
-    ) -> Option<Dead>
-        requires skips { SkipsTo (scanner A.seen self.now).scan (first_bytes_of first) }
-        requires may { MayScan A.seen self.now (at cursor.old tape.old looks.old) }
-        requires before { cursor.old.at < self.now.span.end }
-        ensures { Moves A.seen self.now (at cursor.old tape.old looks.old) result (at cursor.new tape.new looks.new) }
-    {
-        if self.is_to_skip(cursor.state, budget) {
-            self.skip(first, cursor, budget, tape, looks)
-        } else {
-            self.read_rest(cursor, budget, tape, looks)
         }
     }
 
@@ -311,6 +290,7 @@ impl<'a, A: Automaton> Scanner<'a, A> {
     }
 
     /// Reads on to where a call of the prefilter pays and may be made, or else as far as `read` does.
+    #[inline]
     pub(super) fn read_to_start(
         &self,
         cursor: &mut Cursor,

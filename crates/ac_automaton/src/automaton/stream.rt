@@ -5,7 +5,7 @@ ghost use Rattle.ac_automaton.specs.Answers.{BeginsStream};
 ghost use Rattle.ac_automaton.specs.Automata.{IsLiveState, IsState};
 ghost use Rattle.ac_automaton.specs.Commits.{AreCommits, reads_on};
 ghost use Rattle.ac_automaton.specs.declared.automaton.stream_settled.Phase.TheVariants.{Ended, Failed, Open};
-ghost use Rattle.ac_automaton.specs.Streams.{Fills, HasGivenSettled, GivesLast, GivesRead, GivesSettled, ReadsThrough, StreamsOn, kept_len, initial_stream};
+ghost use Rattle.ac_automaton.specs.Streams.{Fills, HasGivenSettled, GivesLast, GivesRead, GivesSettled, ReadsThrough, Streams, kept_len, initial_stream, on};
 
 use super::Automaton;
 use super::onward::{ChainRest, Core, Given, byte_of, chain_rest, match_ending, take_next};
@@ -211,7 +211,7 @@ impl<'a, A: Automaton, Z: Allocator> StreamFinder<'a, A, Z> {
     pub(super) fn fill<R: Source>(&mut self, reader: &mut R) -> Result<bool, StreamError>
         requires goes_on { self.old.phase ≡ Open }
         requires settled { HasGivenSettled self.old self.old }
-        ensures { Fills R.empty_means_end self.old result self.new (R.told reader.old) (R.told reader.new) }
+        ensures { Fills R.empty_means_end (on R.told self.old reader.old) result (on R.told self.new reader.new) }
     {
         self.make_room();
         match read_after(reader, &mut self.buffer, self.filled) {
@@ -297,7 +297,7 @@ impl<'a, A: Automaton, Z: Allocator> StreamFinder<'a, A, Z> {
     /// `Io` where a read failed, and `TooLong` where more bytes came than a `usize` counts. All matches of the bytes
     /// read before it that are settled were returned by then.
     pub fn next<R: Source>(&mut self, reader: &mut R) -> Option<Result<Match, StreamError>>
-        ensures { StreamsOn R.empty_means_end self.old result self.new (R.told reader.old) (R.told reader.new) }
+        ensures { Streams R.empty_means_end (on R.told self.old reader.old) result (on R.told self.new reader.new) }
     {
         match self.phase {
             Phase::Open => {}

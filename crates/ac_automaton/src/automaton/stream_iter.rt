@@ -2,7 +2,7 @@
 ghost use Rattle.std.specs.Prelude.{◌≡◌};
 ghost use Rattle.std.specs.Iterator.{at_most};
 ghost use Rattle.ac_automaton.specs.Answers.{BeginsStream};
-ghost use Rattle.ac_automaton.specs.Streams.{GivesStreamItem, ReadsItem, items_left, kept_len, initial_reading};
+ghost use Rattle.ac_automaton.specs.Streams.{Streams, ReadsItem, items_left, kept_len, initial_stream, on};
 
 use super::Automaton;
 use super::stream::StreamFinder;
@@ -38,7 +38,7 @@ impl<'a, A: Automaton, R: Source + Drop, Z: Allocator> StreamFindIter<'a, A, R, 
         alloc: Z,
         reader: R,
     ) -> Result<StreamFindIter<'a, A, R, Z>, StreamError>
-        ensures { BeginsStream (A.seen automaton.now).built (λ matches. matches ≡ initial_reading (A.seen automaton.now).built (R.told reader)) result }
+        ensures { BeginsStream (A.seen automaton.now).built (λ matches. matches ≡ on R.told (initial_stream (A.seen automaton.now).built) reader) result }
     {
         let finder = StreamFinder::new(automaton, alloc)?;
         Ok(StreamFindIter { finder, reader })
@@ -72,7 +72,7 @@ impl<'a, A: Automaton, R: Source + Drop, Z: Allocator> StreamFindIter<'a, A, R, 
     /// Returns the next match of the stream, and reads more of it where that is needed.
     #[inline]
     fn advance(&mut self) -> Option<Result<Match, StreamError>>
-        ensures { GivesStreamItem R.empty_means_end self.old result self.new }
+        ensures { Streams R.empty_means_end self.old result self.new }
     {
         self.finder.next(&mut self.reader)
     }
@@ -81,7 +81,7 @@ impl<'a, A: Automaton, R: Source + Drop, Z: Allocator> StreamFindIter<'a, A, R, 
 impl<'a, A: Automaton, R: Source + Drop, Z: Allocator> Iterator for StreamFindIter<'a, A, R, Z> {
     type Item = Result<Match, StreamError>;
 
-    ghost next_gives = { GivesStreamItem R.empty_means_end };
+    ghost next_gives = { Streams R.empty_means_end };
 
     ghost remaining = { λ s. at_most (items_left s) };
 

@@ -1,14 +1,13 @@
 -- Packing states one after another.
-use Rattle.std.specs.Prelude.{◌≡◌, ℕ, ◌+◌, ◌≤◌, Bool, List, [], ◌++◌, drop, IfOk, length, nat_eq, Result, slice_get, Some, if◌then◌else◌}
+use Rattle.std.specs.Prelude.{◌≡◌, ℕ, ◌+◌, ◌<◌, ◌≤◌, Bool, List, [], ◌++◌, drop, IfOk, length, nat_eq, Result, slice_get, Some, if◌then◌else◌}
 use Rattle.ac_util.specs.declared.search.Anchored.{Anchored}
 use Rattle.ac_automaton.specs.Util.{alphabet_len, No, Node, Yes}
 use Rattle.ac_automaton.specs.Prelude.{ForNode}
 use Rattle.ac_automaton.specs.declared.nfa.noncontiguous.state.TheConstants.{ANCHORED_START, START}
-use Rattle.ac_engines.specs.Contiguous.{IsContiguous, packed_at}
-use Rattle.ac_engines.specs.Contiguous.Plans.{HasPlaces, HasWords, MayPack, PackPlan, has_matches, packed_of, places_of, size_at, total}
-use Rattle.ac_engines.specs.Contiguous.Words.{node_format, Appends, BeginsWith, PackedState, format_words}
+use Rattle.ac_engines.specs.Contiguous.{IsContiguous, packed_at, packed_dead}
+use Rattle.ac_engines.specs.Contiguous.Plans.{HasPlaces, HasWords, MayPack, PackPlan, before, format_for, has_matches, packed_of, places_of}
+use Rattle.ac_engines.specs.Contiguous.Words.{Appends, BeginsWith, PackedState, format_words}
 use Rattle.ac_engines.specs.declared.nfa.contiguous.format.Format.TheVariants.{Dense}
-use Rattle.ac_engines.specs.declared.nfa.contiguous.pack.Buffers.{Buffers}
 use Rattle.std.specs.declared.alloc.AllocError.{AllocError}
 
 -- what states are packed by: a plan, and the address of each state of the trie
@@ -33,41 +32,26 @@ module _ (f : Packer) (nodes : List Node) where
 
   -- its words
   abbrev pub state_words : ℕ → Node → List ℕ
-  state_words s u =
-      format_words (node_format f.plan.trie.built f.plan.dense_depth u) (alphabet_len f.plan.classes) (packed_state s u)
+  state_words s u = format_words (format_for f.plan u) (alphabet_len f.plan.classes) (packed_state s u)
 
-  -- all states that have matches were pushed, or all others: each stands after those before it
-  pub record HasPushedWords (front : Bool) (old new : List ℕ) : Type 0 where
+  -- the states before one that have matches were pushed, or the others: each stands after those before it
+  pub record HasPushedUpTo (front : Bool) (state : ℕ) (old new : List ℕ) : Type 0 where
     pub pushed : List ℕ
     pub same : new ≡ old ++ pushed
-    pub long : length new ≡ length old + total (size_at f.plan nodes front) (length nodes)
-    pub each : (s : ℕ) (u : Node) → START ≤ s → slice_get nodes s ≡ Some u → has_matches f.plan nodes u ≡ front
-        → BeginsWith (drop (length old + total (size_at f.plan nodes front) s) new)
-        (node_format f.plan.trie.built f.plan.dense_depth u) (alphabet_len f.plan.classes) (packed_state s u)
+    pub long : length new ≡ length old + before f.plan nodes front state
+    pub each : (s : ℕ) (u : Node) → START ≤ s → s < state → slice_get nodes s ≡ Some u
+        → has_matches f.plan nodes u ≡ front
+        → BeginsWith (drop (length old + before f.plan nodes front s) new) (format_for f.plan u)
+        (alphabet_len f.plan.classes) (packed_state s u)
 
 -- the state has words, whose address is known
 pub record HasPlaceIn (f : Packer) (s : ℕ) : Type 0 where
   pub words : HasWords f.plan s
   pub ready : AreReady f words.nodes
 
--- where words succeed in being pushed, they were
-abbrev pub Pushes : {Z : Type 0} → Buffers Z → Buffers Z → List ℕ → Result (Unit {0}) AllocError → Type 0
-Pushes old new words result = Appends old.words.items new.words.items words result
-
 -- the words of the dead state
 abbrev pub dead_words : PackPlan → List ℕ
-dead_words q =
-    format_words Dense (alphabet_len q.classes) (record { failure = 0; default_target = 0; edges = []; matches = [] })
-
--- where the states that have matches succeed in being pushed, or the others, they were
-abbrev pub PushesWhere : {Z : Type 0} → Packer → List Node → Bool → Buffers Z → Buffers Z → Result (Unit {0}) AllocError → Type 0
-PushesWhere f nodes front old new result =
-    IfOk result (λ done. HasPushedWords f nodes front old.words.items new.words.items)
-
--- the words are those of a contiguous NFA
-abbrev pub IsPacked : Packer → List Node → List ℕ → Type 0
-IsPacked f nodes words =
-    IsContiguous (packed_of f.plan nodes f.numbers words) (places_of f.plan nodes f.numbers)
+dead_words q = format_words Dense (alphabet_len q.classes) packed_dead
 
 -- this holds of what a state spells, where all states have addresses
 abbrev pub ForPacked : Packer → ℕ → (PackedState → Type 0) → Type 0
@@ -77,14 +61,13 @@ ForPacked f s P = ForNode (AreReady f) s (λ nodes u. P (packed_state f nodes s 
 abbrev pub AppendsWordsOf : Packer → ℕ → List ℕ → List ℕ → Result (Unit {0}) AllocError → Type 0
 AppendsWordsOf f s old new result = ForNode (AreReady f) s (λ nodes u. Appends old new (state_words f nodes s u) result)
 
--- where they succeed in being pushed, they were
-abbrev pub PushesWordsOf : {Z : Type 0} → Packer → ℕ → Buffers Z → Buffers Z → Result (Unit {0}) AllocError → Type 0
-PushesWordsOf f s old new result = AppendsWordsOf f s old.words.items new.words.items result
+-- where those of all states that have matches do, or those of all others, they were
+abbrev pub AppendsSide : Packer → Bool → List ℕ → List ℕ → Result (Unit {0}) AllocError → Type 0
+AppendsSide f front old new result =
+    (nodes : List Node) → AreReady f nodes → IfOk result (λ done. HasPushedUpTo f nodes front (length nodes) old new)
 
--- where those of all states that have matches do, or of the others, they were
-abbrev pub PushesSide : {Z : Type 0} → Packer → Bool → Buffers Z → Buffers Z → Result (Unit {0}) AllocError → Type 0
-PushesSide f front old new result = (nodes : List Node) → AreReady f nodes → PushesWhere f nodes front old new result
-
--- these are all words
+-- the words are those of a contiguous NFA, where all states have addresses
 abbrev pub PacksAll : Packer → List ℕ → Type 0
-PacksAll f words = (nodes : List Node) → AreReady f nodes → IsPacked f nodes words
+PacksAll f words =
+    (nodes : List Node) → AreReady f nodes
+    → IsContiguous (packed_of f.plan nodes f.numbers words) (places_of f.plan nodes f.numbers)

@@ -50,16 +50,20 @@ module _ (q : PackPlan) (nodes : List Node) where
   abbrev pub size_at : Bool → ℕ → ℕ
   size_at front s = if nat_lt s START then 0 else sized front (slice_get nodes s)
 
+  -- how many words the states before one take, of those that have matches or of the others
+  abbrev pub before : Bool → ℕ → ℕ
+  before front s = total (size_at front) s
+
   -- up to which place those stand that have matches: first of all comes the dead state
   abbrev pub front_end : ℕ
-  front_end = size_of None + total (size_at true) (length nodes)
+  front_end = size_of None + before true (length nodes)
 
   -- where the state of a number stands: those that have matches come before the others, and else the order is that of
   -- the trie
   abbrev pub placed : ℕ → Option Node → ℕ
   placed s None = 0
   placed s (Some u) =
-      if has_matches u then size_of None + total (size_at true) s else front_end + total (size_at false) s
+      if has_matches u then size_of None + before true s else front_end + before false s
 
   abbrev pub place_at : ℕ → ℕ
   place_at s = if nat_lt s START then 0 else placed s (slice_get nodes s)
@@ -96,16 +100,13 @@ pub record HasWords (q : PackPlan) (s : ℕ) : Type 0 where
   pub named : slice_get nodes s ≡ Some node
   pub reached : START ≤ s
 
--- how many matches a node has, and the form that its state takes
-abbrev pub match_len_of : PackPlan → Node → ℕ
-match_len_of q u = length (matches_of q.trie.built No u)
-
+-- the form that the state of a node takes
 abbrev pub format_for : PackPlan → Node → Format
 format_for q u = node_format q.trie.built q.dense_depth u
 
 -- a state has so many matches
 abbrev pub HasMatchLen : PackPlan → ℕ → ℕ → Type 0
-HasMatchLen q s matches = ForNode (MayPack q) s (λ nodes u. matches ≡ match_len_of q u)
+HasMatchLen q s matches = ForNode (MayPack q) s (λ nodes u. matches ≡ length (matches_of q.trie.built No u))
 
 -- and this form
 abbrev pub HasFormat : PackPlan → ℕ → Format → Type 0

@@ -1,12 +1,10 @@
 -- The forms of the states of a contiguous NFA, how many words each takes, and how they are spelled in words of 32 bits.
-use Rattle.std.specs.Prelude.{ℕ, zero, suc, ◌+◌, ◌/◌, nat_lt, if◌then◌else◌, ◌*◌, List, [], ◌∷◌, length, Some, None, ◌≡◌, ◌≢◌, ◌%◌, ◌<◌, ◌≤◌, ◌==◌, ◌++◌, map, slice_index, slice_index_or, All, IfOk, Option, Result, ⊤}
+use Rattle.std.specs.Prelude.{ℕ, zero, suc, ◌+◌, ◌/◌, nat_lt, if◌then◌else◌, ◌*◌, List, [], ◌∷◌, length, Some, None, ◌≡◌, ◌<◌, ◌≤◌, ◌==◌, ◌&&◌, ◌++◌, map, slice_index_or, All, IfOk, Result, ⊤}
 use Rattle.ac_engines.specs.declared.nfa.contiguous.format.Format.{Format}
 use Rattle.ac_engines.specs.declared.nfa.contiguous.format.Format.TheVariants.{Dense, One, Sparse}
 use Rattle.std.specs.List.{sum_by, range_with_len}
 use Rattle.ac_automaton.specs.Util.{Built, inner_nodes, No, Node}
 use Rattle.ac_automaton.specs.Prelude.{matches_of, transition_bytes_of, plain_of}
-use Rattle.std.specs.Borrow.{Bor}
-use Rattle.std.specs.Int.{to_le_bytes, w32}
 use Rattle.std.specs.List.Sorted.{IsStrictlyIncreasing}
 use Rattle.ac_engines.specs.declared.nfa.contiguous.state.Edge.{Edge}
 
@@ -30,18 +28,14 @@ no_target = 1
 abbrev pub one_match : ℕ
 one_match = 2147483648
 
--- the form of a state below the dense depth, by its numbers of transitions and of matches: one transition has a form
--- of its own, where nothing matches
-abbrev pub sparse_format : ℕ → ℕ → Format
-sparse_format (suc zero) zero = One
-sparse_format transitions matches = Sparse
-
--- the form of a state other than the dead one and the starts, which are dense; its depth is the length of its node
+-- the form of a state other than the dead one and the starts, which are dense: one transition has a form of its own,
+-- where nothing matches. The depth of a state is the length of its node
 abbrev pub format_of : ℕ → ℕ → ℕ → ℕ → Format
 format_of depth dense_depth transitions matches =
     if nat_lt depth dense_depth then Dense
     else if nat_lt most_sparse transitions then Dense
-    else sparse_format transitions matches
+    else if transitions == 1 && matches == 0 then One
+    else Sparse
 
 -- a match stands in one word; several stand after their count
 abbrev pub match_words : ℕ → ℕ
@@ -56,16 +50,13 @@ words_of_state Dense classes transitions matches = 2 + classes + match_words mat
 words_of_state One classes transitions matches = 3 + match_words matches
 words_of_state Sparse classes transitions matches = 2 + (transitions + 3) / 4 + transitions + match_words matches
 
--- the form of the state of a string that isn't empty, by the length up to which states are dense
-abbrev pub inner_format : Built → ℕ → List ℕ → Format
-inner_format built dense_depth w =
-    format_of (length w) dense_depth (length (transition_bytes_of built (Some w))) (length (matches_of built No (Some w)))
-
--- the form of a node's state: the dead one and the starts are dense
+-- the form of a node's state, by the length below which states are dense: the dead one and the starts are dense always
 abbrev pub node_format : Built → ℕ → Node → Format
 node_format built dense_depth None = Dense
 node_format built dense_depth (Some []) = Dense
-node_format built dense_depth (Some (x ∷ w)) = inner_format built dense_depth (x ∷ w)
+node_format built dense_depth (Some (x ∷ w)) =
+    let u = Some (x ∷ w) in
+    format_of (length (x ∷ w)) dense_depth (length (transition_bytes_of built u)) (length (matches_of built No u))
 
 -- how many words it takes, where there are so many classes
 abbrev pub node_words : Built → ℕ → ℕ → Node → ℕ
@@ -92,14 +83,6 @@ unfoldable pub target_by : ℕ → List Edge → ℕ → ℕ
 target_by default_target [] class = default_target
 target_by default_target (e ∷ edges) class = if e.class == class then e.target else target_by default_target edges class
 
--- the target that a word names, if it isn't the number that no state has
-abbrev pub named : ℕ → Option ℕ
-named target = if target == no_target then None else Some target
-
--- each transition leads to a state
-abbrev pub AreNamed : List Edge → Type 0
-AreNamed edges = All (λ e. e.target ≢ no_target) edges
-
 -- four classes in one word, the first in the low byte
 abbrev pub word_of : ℕ → ℕ → ℕ → ℕ → ℕ
 word_of a b c d = a + 256 * (b + 256 * (c + 256 * d))
@@ -124,14 +107,21 @@ abbrev pub one_words : ℕ → List Edge → List ℕ
 one_words failure [] = []
 one_words failure (e ∷ edges) = (one_form + 256 * e.class) ∷ failure ∷ e.target ∷ []
 
+-- the words of a state but for its matches, by its form
+abbrev pub dense_head : ℕ → PackedState → List ℕ
+dense_head classes s = dense_form ∷ s.failure ∷ map (target_by s.default_target s.edges) (range_with_len 0 classes)
+
+abbrev pub one_head : PackedState → List ℕ
+one_head s = one_words s.failure s.edges
+
+abbrev pub sparse_head : PackedState → List ℕ
+sparse_head s = length s.edges ∷ s.failure ∷ class_words (map (λ e. e.class) s.edges) ++ map (λ e. e.target) s.edges
+
 -- the words of a state, where there are so many classes
 unfoldable pub format_words : Format → ℕ → PackedState → List ℕ
-format_words Dense classes s =
-    dense_form ∷ s.failure ∷ map (target_by s.default_target s.edges) (range_with_len 0 classes) ++ match_list_words s.matches
-format_words One classes s = one_words s.failure s.edges
-format_words Sparse classes s =
-    length s.edges ∷ s.failure ∷ class_words (map (λ e. e.class) s.edges)
-    ++ map (λ e. e.target) s.edges ++ match_list_words s.matches
+format_words Dense classes s = dense_head classes s ++ match_list_words s.matches
+format_words One classes s = one_head s
+format_words Sparse classes s = sparse_head s ++ match_list_words s.matches
 
 -- a form can spell these transitions and matches: a form that isn't dense leads nowhere where there is no transition
 abbrev pub Fits : Format → PackedState → Type 0
@@ -151,105 +141,12 @@ pub record BeginsWith (words : List ℕ) (format : Format) (classes : ℕ) (s : 
   pub few_matches : length s.matches < one_match
   pub numbers : (k : ℕ) → slice_index_or s.matches k 0 < one_match
 
--- which of four classes is this one first, or 4 where none is
-abbrev pub first_of : ℕ → ℕ → ℕ → ℕ → ℕ → ℕ
-first_of a b c d class =
-    if a == class then 0
-    else if b == class then 1
-    else if c == class then 2
-    else if d == class then 3
-    else 4
-
 -- some targets are as the old ones, but for those of the transitions, which stand at their classes
 pub record HasTargets (old : List ℕ) (edges : List Edge) (now : List ℕ) : Type 0 where
   pub same_length : length now ≡ length old
   pub each : (class : ℕ) → class < length old
       → slice_index_or now class 0 ≡ target_by (slice_index_or old class 0) edges class
 
--- the transitions that a state's words tell, in ascending order of their classes; a dense state says where each class
--- leads
-abbrev pub transitions_of_state : Format → ℕ → PackedState → List Edge
-transitions_of_state Dense classes s =
-    map (λ class. record { class = class; target = target_by s.default_target s.edges class }) (range_with_len 0 classes)
-transitions_of_state One classes s = s.edges
-transitions_of_state Sparse classes s = s.edges
-
--- the class at a place of class words
-abbrev pub packed_class : List ℕ → ℕ → ℕ
-packed_class words place = slice_index_or (to_le_bytes w32 (slice_index_or words (place / 4) 0)) (place % 4) 0
-
--- the class of a place: that in the class words, or the place itself where there are none
-abbrev pub class_of_place : Option (Bor (List ℕ)) → ℕ → ℕ
-class_of_place (Some words) place = packed_class words.now place
-class_of_place None place = place
-
--- transitions to these targets, by the classes of places from one on
-unfoldable pub edges_from : (ℕ → ℕ) → ℕ → List ℕ → List Edge
-edges_from class_of place [] = []
-edges_from class_of place (target ∷ targets) =
-    record { class = class_of place; target = target } ∷ edges_from class_of (place + 1) targets
-
--- some state is spelled where the words begin, and this holds of it
-abbrev pub SomeState : List ℕ → (Format → ℕ → PackedState → Type 0) → Type 0
-SomeState words P =
-    (format : Format) × (classes : ℕ) × (s : PackedState) × BeginsWith words format classes s × P format classes s
-
--- this holds of each state that is spelled there
-abbrev pub EachState : List ℕ → (Format → ℕ → PackedState → Type 0) → Type 0
-EachState words P = (format : Format) (classes : ℕ) (s : PackedState) → BeginsWith words format classes s → P format classes s
-
--- the same where it is known how many classes there are
-abbrev pub SomeStateOf : List ℕ → ℕ → (PackedState → Type 0) → Type 0
-SomeStateOf words classes P = (format : Format) × (s : PackedState) × BeginsWith words format classes s × P s
-
-abbrev pub StateOf : List ℕ → ℕ → (Format → PackedState → Type 0) → Type 0
-StateOf words classes P = (format : Format) (s : PackedState) → BeginsWith words format classes s → P format s
-
--- a state leads so by a class
-abbrev pub LeadsBy : ℕ → Option ℕ → Format → ℕ → PackedState → Type 0
-LeadsBy class target format classes s =
-    AreNamed s.edges → class < classes → target ≡ named (target_by s.default_target s.edges class)
-
--- the same of a sparse state with so many transitions
-abbrev pub SparseLeadsBy : List ℕ → ℕ → ℕ → Option ℕ → Type 0
-SparseLeadsBy words transitions class target =
-    (classes : ℕ) (s : PackedState) → BeginsWith words Sparse classes s → AreNamed s.edges → transitions ≡ length s.edges
-    → target ≡ named (target_by no_target s.edges class)
-
--- the words are those of a state's matches, and what follows the state
-abbrev pub AreMatchWords : List ℕ → ℕ → List ℕ → Type 0
-AreMatchWords words classes matches =
-    (format : Format) (s : PackedState) (begins : BeginsWith words format classes s) → s.matches ≢ []
-    → matches ≡ match_list_words s.matches ++ begins.rest
-
--- the place of a class among the four of a word
-abbrev pub IsPlaceIn : ℕ → ℕ → ℕ → Type 0
-IsPlaceIn word class place =
-    (a b c d : ℕ) → a < 256 → b < 256 → c < 256 → d < 256 → word ≡ word_of a b c d → place ≡ first_of a b c d class
-
 -- where words succeed in being appended, they were
 abbrev pub Appends : {E : Type 0} → List ℕ → List ℕ → List ℕ → Result (Unit {0}) E → Type 0
 Appends old new words result = IfOk result (λ done. new ≡ old ++ words)
-
--- the words of a state but for its matches, by its form
-abbrev pub dense_head : ℕ → PackedState → List ℕ
-dense_head classes s = dense_form ∷ s.failure ∷ map (target_by s.default_target s.edges) (range_with_len 0 classes)
-
-abbrev pub one_head : PackedState → List ℕ
-one_head s = one_words s.failure s.edges
-
-abbrev pub sparse_head : PackedState → List ℕ
-sparse_head s = length s.edges ∷ s.failure ∷ class_words (map (λ e. e.class) s.edges) ++ map (λ e. e.target) s.edges
-
--- the words begin with those of some state
-abbrev pub BeginWithState : List ℕ → Type 0
-BeginWithState words = (format : Format) × (classes : ℕ) × (s : PackedState) × BeginsWith words format classes s
-
--- with those of a sparse state with so many transitions
-abbrev pub BeginSparse : List ℕ → ℕ → Type 0
-BeginSparse words transitions =
-    (classes : ℕ) × (s : PackedState) × BeginsWith words Sparse classes s × (transitions ≡ length s.edges)
-
--- a state with a match at the place has this one there
-abbrev pub MatchesAt : ℕ → ℕ → Format → PackedState → Type 0
-MatchesAt index pattern format s = index < length s.matches → pattern ≡ slice_index s.matches index

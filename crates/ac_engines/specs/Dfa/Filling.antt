@@ -132,21 +132,17 @@ module _ (f : Filling) (nodes : List Node) (size : ℕ) where
     pub earlier : anchored ≡ No → (t : ℕ) (u : Node) → t < s → t ≢ 3 → slice_get nodes t ≡ Some u
         → IsFilled (row_input f nodes) No u entries
 
-  -- all rows are filled
-  abbrev pub AreFilled : List ℕ → Type 0
-  AreFilled entries = FilledUpTo (length nodes) entries
-
--- the row of a string where nodes are known
-abbrev pub row_of : Filling → List Node → Anchored → List ℕ → ℕ
-row_of f nodes anchored w = row_at (row_input f nodes) anchored (Some w)
-
 -- the own transitions of a string were set in its row
 abbrev pub SetsOwn : Filling → ℕ → Anchored → List ℕ → List ℕ → Type 0
 SetsOwn f s anchored old new =
     (nodes : List Node) (w : List ℕ) → HasRow f nodes (length old) s w
     → HasSet (row_input f nodes) anchored w (transition_bytes_of (row_input f nodes).built (Some w)) old new
 
--- the row of a string was filled
+-- the row of a string is to be filled
+abbrev pub IsRowToFill : Filling → ℕ → List ℕ → Anchored → List ℕ → Type 0
+IsRowToFill f s w anchored old = (nodes : List Node) × MayFillRow f nodes (length old) s w anchored old
+
+-- it was
 abbrev pub FillsRow : Filling → ℕ → List ℕ → Anchored → List ℕ → List ℕ → Type 0
 FillsRow f s w anchored old new =
     (nodes : List Node) → MayFillRow f nodes (length old) s w anchored old → HasFilled (row_input f nodes) anchored w old new
@@ -160,34 +156,13 @@ FillsState f s old new =
 -- the number is that of a row of a state
 abbrev pub IsRowNumber : Filling → ℕ → Anchored → ℕ → Type 0
 IsRowNumber f s anchored number =
-    (nodes : List Node) (size : ℕ) (w : List ℕ) → HasRow f nodes size s w → number ≡ row_of f nodes anchored w
+    (nodes : List Node) (size : ℕ) (w : List ℕ) → HasRow f nodes size s w
+    → number ≡ row_at (row_input f nodes) anchored (Some w)
 
 -- where a byte leads from the unanchored start that doesn't lead on: back to it, unless under a leftmost kind an empty
 -- pattern has begun the match
 abbrev pub start_target : Built → ℕ → ℕ
 start_target built start = if is_leftmost built.kind && begins_with_pattern (plain_of built) [] then 0 else start
-
--- a row of some state can be filled
-abbrev pub MayFillSome : Filling → ℕ → Anchored → List ℕ → Type 0
-MayFillSome f s anchored old =
-    (nodes : List Node) × (w : List ℕ) × MayFillRow f nodes (length old) s w anchored old
-
--- it was
-abbrev pub FillsSome : Filling → ℕ → Anchored → List ℕ → List ℕ → Type 0
-FillsSome f s anchored old new =
-    (nodes : List Node) (w : List ℕ) → MayFillRow f nodes (length old) s w anchored old
-    → HasFilled (row_input f nodes) anchored w old new
-
--- the unanchored row of a state that isn't a start can be filled
-abbrev pub MayFillInner : Filling → ℕ → List ℕ → Type 0
-MayFillInner f s old =
-    (nodes : List Node) × (w : List ℕ) × (w ≢ []) × MayFillRow f nodes (length old) s w No old
-
--- it was
-abbrev pub FillsInner : Filling → ℕ → List ℕ → List ℕ → Type 0
-FillsInner f s old new =
-    (nodes : List Node) (w : List ℕ) → w ≢ [] → MayFillRow f nodes (length old) s w No old
-    → HasFilled (row_input f nodes) No w old new
 
 -- the rows of a state can be filled: those of all before it are
 abbrev pub MayFillState : Filling → ℕ → List ℕ → Type 0
@@ -196,4 +171,4 @@ MayFillState f s old =
 
 -- all rows of a table of this size are filled, where they can be
 abbrev pub FillsAll : Filling → ℕ → List ℕ → Type 0
-FillsAll f size entries = (nodes : List Node) → MayFill f nodes size → AreFilled f nodes size entries
+FillsAll f size entries = (nodes : List Node) → MayFill f nodes size → FilledUpTo f nodes size (length nodes) entries

@@ -28,14 +28,11 @@ row_lists Both built u = matches_of built No u ∷ matches_of built Yes u ∷ []
 row_lists Unanchored built u = matches_of built No u ∷ []
 row_lists AnchoredAlone built u = matches_of built Yes u ∷ []
 
--- the lists of the rows that are kept for the start, which for one start are one and an empty one
-abbrev pub start_lists : StartKind → Built → List (List ℕ)
-start_lists Both built = row_lists Both built (Some [])
-start_lists start_kind built = row_lists start_kind built (Some []) ++ [] ∷ []
-
--- the lists of the first four rows: that of the dead node, that of no node, and those of the start
+-- the lists of the first four rows: that of the dead node, that of no node, and those of the start, which for one
+-- start are one and an empty one
 abbrev pub first_lists : StartKind → Built → List (List ℕ)
-first_lists start_kind built = [] ∷ [] ∷ start_lists start_kind built
+first_lists Both built = [] ∷ [] ∷ row_lists Both built (Some [])
+first_lists start_kind built = [] ∷ [] ∷ row_lists start_kind built (Some []) ++ [] ∷ []
 
 -- a node's rows are the first after those that have lists, and their lists were added
 pub record IsInFront (start_kind : StartKind) (built : Built) (u : Node) (row : ℕ) (lists : List (List ℕ)) (back : ℕ)

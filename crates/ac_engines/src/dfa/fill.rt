@@ -1,9 +1,9 @@
 //! Filling the rows of a DFA.
-ghost use Rattle.std.specs.Prelude.{◌≡◌, ◌⊎◌, ◌&&◌, ℕ, ◌+◌, ◌<◌, ◌≤◌, List, [], length, slice_index_or};
+ghost use Rattle.std.specs.Prelude.{◌≡◌, ◌≢◌, ◌⊎◌, ◌&&◌, ℕ, ◌+◌, ◌<◌, ◌≤◌, List, [], length, slice_index_or};
 ghost use Rattle.std.specs.List.{CopiedTo, SameBelow, SameFrom};
 ghost use Rattle.ac_automaton.specs.Util.{GREATEST, is_leftmost, Node};
 ghost use Rattle.ac_util.specs.declared.search.Anchored;
-ghost use Rattle.ac_engines.specs.Dfa.Filling.{FillsAll, FillsInner, FillsRow, FillsSome, FillsState, HasRow, IsRowNumber, MayFill, MayFillInner, MayFillRow, MayFillSome, MayFillState, SameBeside, SetsOwn, start_target};
+ghost use Rattle.ac_engines.specs.Dfa.Filling.{FillsAll, FillsRow, FillsState, HasRow, IsRowNumber, IsRowToFill, MayFill, MayFillState, SameBeside, SetsOwn, start_target};
 ghost use Rattle.ac_engines.specs.Dfa.{anchored_shift};
 
 use ac_automaton::automaton::Automaton;
@@ -75,7 +75,7 @@ impl<'a, A: Allocator> Filler<'a, A> {
     /// Fills the row of the start in unanchored searches. Bytes without a transition stay at the start, or lead to
     /// the dead state where under a leftmost kind an empty pattern has begun the match.
     fn fill_start(&self, table: &mut [StateID])
-        requires { (nodes : List Node) × MayFillRow self.now nodes (length table.old) 2 [] Anchored.No table.old }
+        requires { IsRowToFill self.now 2 [] Anchored.No table.old }
         ensures { FillsRow self.now 2 [] Anchored.No table.old table.new }
     {
         let sid = StateID::must(START);
@@ -103,8 +103,8 @@ impl<'a, A: Allocator> Filler<'a, A> {
     /// Fills the unanchored row of a state after the starts: each class leads where it leads from the failure target,
     /// but for those of the state's own transitions.
     fn fill_inner(&self, table: &mut [StateID], sid: StateID)
-        requires { MayFillInner self.now sid table.old }
-        ensures { FillsInner self.now sid table.old table.new }
+        requires { (w : List ℕ) × (w ≢ []) × IsRowToFill self.now sid w Anchored.No table.old }
+        ensures { (w : List ℕ) → w ≢ [] → FillsRow self.now sid w Anchored.No table.old table.new }
     {
         let from = first_row(self.numbers, self.nfa.fail(sid));
         let to = self.number(sid, Anchored::No).as_usize();
@@ -114,8 +114,8 @@ impl<'a, A: Allocator> Filler<'a, A> {
 
     /// Fills one of the rows of a state.
     fn fill_row(&self, table: &mut [StateID], sid: StateID, anchored: Anchored)
-        requires { MayFillSome self.now sid anchored table.old }
-        ensures { FillsSome self.now sid anchored table.old table.new }
+        requires { (w : List ℕ) × IsRowToFill self.now sid w anchored table.old }
+        ensures { (w : List ℕ) → FillsRow self.now sid w anchored table.old table.new }
     {
         match anchored {
             Anchored::Yes => self.set_own(table, sid, Anchored::Yes),

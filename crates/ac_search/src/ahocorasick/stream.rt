@@ -2,7 +2,7 @@
 ghost use Rattle.std.specs.Prelude.{◌≡◌, Err, IfErr, IfOk, MatchResult, None, Ok, length};
 ghost use Rattle.ac_automaton.specs.Util.{bytes_of, stream_refusal};
 ghost use Rattle.ac_automaton.specs.Answers.{BeginsStream, ExchangesStream, ExchangesStreamBy};
-ghost use Rattle.ac_automaton.specs.Streams.{GivesRead, StreamsOn, kept_len};
+ghost use Rattle.ac_automaton.specs.Streams.{GivesRead, Streams, kept_len, on};
 ghost use Rattle.ac_search.specs.Searchers.{HasBegun, HasBegunOver};
 
 use super::engine::{Engine, EngineStreamFinder, by_engine};
@@ -89,8 +89,8 @@ impl<A: Allocator> AhoCorasick<A> {
     /// Those of `try_stream_find_iter`: then nothing was read or written. `Io` where a read or a write failed, and
     /// `TooLong` where more bytes came than a `usize` counts: what was written before that read stays written.
     /// `WriteZero` where a write took no byte. Where a write failed or took nothing, a prefix was written of the replaced
-    /// text as far as no byte to come can change it. The law `lists_write_exchanged` says what was written by the stream
-    /// alone.
+    /// text as far as no byte to come can change it, and nothing was read after that. The law `lists_write_exchanged` says
+    /// what was written by the stream alone.
     ///
     /// ```
     /// let patterns: &[&[u8]] = &[b"secret", b"password"];
@@ -214,7 +214,7 @@ impl<'a, A: Allocator, Z: Allocator> StreamFinder<'a, A, Z> {
     /// `Io` where a read failed, and `TooLong` where more bytes came than a `usize` counts. All matches of the bytes
     /// read before it that are settled were returned by then.
     pub fn next<R: Source>(&mut self, reader: &mut R) -> Option<Result<Match, StreamError>>
-        ensures { StreamsOn R.empty_means_end self.old result self.new (R.told reader.old) (R.told reader.new) }
+        ensures { Streams R.empty_means_end (on R.told self.old reader.old) result (on R.told self.new reader.new) }
     {
         self.finder.next(reader)
     }

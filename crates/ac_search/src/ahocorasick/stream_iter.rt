@@ -1,7 +1,7 @@
 //! The iterator over the matches of what a reader gives.
 ghost use Rattle.std.specs.Prelude.{◌≡◌};
 ghost use Rattle.std.specs.Iterator.{at_most};
-ghost use Rattle.ac_automaton.specs.Streams.{GivesStreamItem, ReadsItem, items_left, kept_len};
+ghost use Rattle.ac_automaton.specs.Streams.{Streams, ReadsItem, items_left, kept_len};
 
 use super::stream::StreamFinder;
 use ac_util::device::Source;
@@ -69,7 +69,7 @@ impl<'a, R: Source + Drop, A: Allocator, Z: Allocator> StreamFindIter<'a, R, A, 
     /// Returns the next match of the stream, and reads on as far as that needs.
     #[inline]
     fn advance(&mut self) -> Option<Result<Match, StreamError>>
-        ensures { GivesStreamItem R.empty_means_end self.old result self.new }
+        ensures { Streams R.empty_means_end self.old result self.new }
     {
         self.finder.next(&mut self.reader)
     }
@@ -78,7 +78,7 @@ impl<'a, R: Source + Drop, A: Allocator, Z: Allocator> StreamFindIter<'a, R, A, 
 impl<'a, R: Source + Drop, A: Allocator, Z: Allocator> Iterator for StreamFindIter<'a, R, A, Z> {
     type Item = Result<Match, StreamError>;
 
-    ghost next_gives = { GivesStreamItem R.empty_means_end };
+    ghost next_gives = { Streams R.empty_means_end };
 
     ghost remaining = { λ s. at_most (items_left s) };
 

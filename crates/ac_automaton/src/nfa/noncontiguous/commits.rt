@@ -3,12 +3,13 @@
 //! They are made breadth first, from that of a state's parent and one byte. Where the byte leads on from the state at which the
 //! parent's commit ends, its chain stays as it is. Else the chain grows by the match that is picked there, as a walk would give
 //! it, and the byte is tried again at the state where that one's commit ends.
-ghost use Rattle.std.specs.Prelude.{◌≡◌, ◌≢◌, ◌⊎◌, ℕ, ◌+◌, ◌<◌, ◌≤◌, [], ◌∷◌, ◌++◌, IfOk, List, MatchBool, Some, length, slice_get, slice_index_or, slice_set};
-ghost use Rattle.ac_util.specs.Node.{Node, depth};
-ghost use Rattle.ac_automaton.specs.Util.{GREATEST};
-ghost use Rattle.ac_automaton.specs.Commits.{HasCommits};
-ghost use Rattle.ac_automaton.specs.Committing.{HasAdded, HasLedOn, Holds, IsChild, KeepsTrie, HasMadeNone, IsMade, LeadsToChild, made_of, MakesAt, MeansWhole};
-ghost use Rattle.ac_automaton.specs.Tries.{all_matches, automaton_of, IsTrie, state_at, trie_of, TrieView};
+ghost use Rattle.std.specs.Prelude.{◌≡◌, ◌+◌, ◌<◌, ◌≤◌, [], ◌∷◌, IfOk, List, length};
+ghost use Rattle.ac_util.specs.Node.{Node};
+ghost use Rattle.ac_automaton.specs.Util.{Both, GREATEST};
+ghost use Rattle.ac_automaton.specs.Automata.{built_as};
+ghost use Rattle.ac_automaton.specs.Commits.{HasCommits, reads_on};
+ghost use Rattle.ac_automaton.specs.Committing.{HasAdded, HasLedOn, HasMadeNone, Holds, IsChild, IsMade, MakesNext, HasString, IsViewOf, LeadsToChild, lists_by, lists_of, made_of, trie_by};
+ghost use Rattle.ac_automaton.specs.Tries.{automaton_of, IsTrie, TrieView};
 
 use super::lists::TrieLists;
 use super::state::{START, State, Transition, TrieSlices, follow, own_transitions, take_listed};
@@ -18,7 +19,7 @@ use ac_util::primitives::{PatternID, StateID};
 use ac_util::search::Anchored;
 use std::alloc::{AllocError, Allocator};
 
-/// The states of an automaton, and the commits that were made of them so far.
+/// The states of an automaton, and the commits that were made of its states so far.
 #[derive(Drop)]
 struct Making<'a, A: Allocator> {
     states: &'a [State],
@@ -36,9 +37,8 @@ impl<'a, A: Allocator + Clone> Making<'a, A> {
     /// # Errors
     /// `AllocError` where the allocator has no copy of itself.
     fn new(lists: &'a TrieLists<A>) -> Result<Making<'a, A>, AllocError>
-        ensures { IfOk result (λ making. (making.states.now ≡ lists.now.states.items)
-            × (making.transitions.now ≡ lists.now.transitions.items) × (making.order.now ≡ lists.now.order.items)
-            × (making.index.items ≡ []) × (making.commits.items ≡ []) × (making.chains ≡ [] ∷ [])) }
+        ensures lists { IfOk result (λ making. lists_of making ≡ lists_by lists.now) }
+        ensures none { IfOk result (λ making. HasMadeNone (made_of making)) }
     {
         let alloc = lists.states.allocator();
         Ok(Making {
@@ -60,10 +60,9 @@ impl<'a, A: Allocator> Making<'a, A> {
     fn add_all(&mut self) -> Result<(), AllocError>
         requires few { length self.old.states.now ≤ GREATEST + 1 }
         requires begun { HasMadeNone (made_of self.old) }
-        requires view { (g : TrieView) × (g.transitions ≡ self.old.transitions.now) × (g.order ≡ self.old.order.now)
-            × MeansWhole g self.old.states.now }
-        ensures { IfOk result (λ _. (g : TrieView) → g.transitions ≡ self.old.transitions.now → g.order ≡ self.old.order.now
-            → MeansWhole g self.old.states.now → IsMade g (made_of self.new) (length g.nodes)) }
+        requires view { (g : TrieView) × IsViewOf (lists_of self.old) g }
+        ensures { IfOk result (λ _. (g : TrieView) → IsViewOf (lists_of self.old) g
+            → IsMade g (made_of self.new) (length g.nodes)) }
     {
         let count = self.states.len();
         self.index.resize(count, 0)?;
@@ -73,10 +72,10 @@ impl<'a, A: Allocator> Making<'a, A> {
         Ok(())
     }
 
-    /// Returns the commit of a state whose string has a pick: where the string ends with a match, nothing is given after that.
+    /// Returns the commit of a state, if it was made. That of a state whose string ends with a match gives nothing after it.
     fn held(&self, sid: StateID) -> Option<Commit>
-        requires state { (g : TrieView) × (s : ℕ) × MakesAt self.now s g × (sid ≤ s) × (sid < length self.now.states.now) }
-        ensures { (g : TrieView) (s : ℕ) → MakesAt self.now s g → sid ≤ s → Holds g self.now.chains sid result }
+        requires at { HasString self.now sid }
+        ensures { Holds self.now sid result }
     {
         let rest = MatchRest {
             state: sid,
@@ -103,13 +102,11 @@ impl<'a, A: Allocator> Making<'a, A> {
     /// # Errors
     /// `AllocError` where a request for memory is refused.
     fn lead_on(&mut self, parent: Commit, next: Transition) -> Result<Commit, AllocError>
-        requires leads { (g : TrieView) × (s : ℕ) × (u : List ℕ) × MakesAt self.old s g
-            × LeadsToChild g self.old.chains s u parent next }
-        ensures leads { IfOk result (λ commit. (g : TrieView) (s : ℕ) (u : List ℕ) → MakesAt self.old s g
-            → LeadsToChild g self.old.chains s u parent next → HasLedOn g (made_of self.old) (made_of self.new) u next commit) }
+        requires leads { LeadsToChild self.old parent next }
+        ensures leads { IfOk result (λ commit. (leads : LeadsToChild self.old parent next)
+            → HasLedOn self.old self.new parent next leads.child commit) }
         ensures same { IfOk result (λ _. self.new ≡ record self.old { chains = self.new.chains }) }
     {
-        let picked_end = self.depth(parent.state) - parent.rest;
         let trie = TrieSlices {
             states: self.states,
             transitions: self.transitions,
@@ -121,7 +118,7 @@ impl<'a, A: Allocator> Making<'a, A> {
             if to.as_usize() >= START {
                 return Ok(Commit {
                     state: next.target,
-                    rest: self.depth(next.target) - picked_end,
+                    rest: parent.rest + 1,
                     next: to,
                     chain,
                     ..parent
@@ -142,13 +139,12 @@ impl<'a, A: Allocator> Making<'a, A> {
     /// # Errors
     /// `AllocError` where a request for memory is refused.
     fn add(&mut self, parent: &Commit, next: Transition) -> Result<(), AllocError>
-        requires child { (g : TrieView) × (s : ℕ) × (u : List ℕ) × MakesAt self.old s g
-            × IsChild g self.old.chains s u parent.now next }
-        ensures adds { IfOk result (λ _. (g : TrieView) (s : ℕ) (u : List ℕ) → MakesAt self.old s g
-            → IsChild g self.old.chains s u parent.now next → HasAdded g (made_of self.old) (made_of self.new) s next) }
-        ensures same { IfOk result (λ _. KeepsTrie self.old self.new) }
+        requires child { IsChild self.old parent.now next }
+        ensures adds { IfOk result (λ _. (child : IsChild self.old parent.now next)
+            → HasAdded child.at.view (made_of self.old) (made_of self.new) next) }
+        ensures same { IfOk result (λ _. lists_of self.new ≡ lists_of self.old) }
     {
-        if self.needs_none(next.target) {
+        if self.held(next.target).is_some() {
             return Ok(());
         }
         let commit = self.lead_on(*parent, next)?;
@@ -158,32 +154,15 @@ impl<'a, A: Allocator> Making<'a, A> {
         Ok(())
     }
 
-    /// Returns whether the commit of a state was made, or its string ends with a match.
-    fn needs_none(&self, sid: StateID) -> bool
-        requires state { (g : TrieView) × (s : ℕ) × (u : Node) × MakesAt self.now s g × (slice_get g.nodes sid ≡ Some u) }
-        ensures { MatchBool result
-            ((slice_index_or self.now.index.items sid 0 ≢ 0)
-            ⊎ ((g : TrieView) (s : ℕ) (u : Node) → MakesAt self.now s g → slice_get g.nodes sid ≡ Some u → all_matches g u ≢ []))
-            ((slice_index_or self.now.index.items sid 0 ≡ 0)
-            × ((g : TrieView) (s : ℕ) (u : Node) → MakesAt self.now s g → slice_get g.nodes sid ≡ Some u → all_matches g u ≡ [])) }
-    {
-        let rest = MatchRest {
-            state: sid,
-            index: 0,
-        };
-        self.index[sid.as_usize()] > 0 || take_listed(self.states, self.order, rest).is_some()
-    }
-
     /// Makes the commits of the children of a state.
     ///
     /// # Errors
     /// `AllocError` where a request for memory is refused.
     fn add_children(&mut self, sid: StateID) -> Result<(), AllocError>
-        requires ready { (g : TrieView) × MakesAt self.old sid g }
-        requires from { START ≤ sid }
-        requires state { sid < length self.old.states.now }
-        ensures adds { IfOk result (λ _. (g : TrieView) → MakesAt self.old sid g → MakesAt self.new (sid + 1) g) }
-        ensures same { IfOk result (λ _. KeepsTrie self.old self.new) }
+        requires next { MakesNext self.old sid }
+        ensures adds { IfOk result (λ _. (next : MakesNext self.old sid)
+            → IsMade next.at.view (made_of self.new) (sid + 1)) }
+        ensures same { IfOk result (λ _. lists_of self.new ≡ lists_of self.old) }
     {
         let Some(parent) = self.held(sid) else {
             return Ok(());
@@ -193,14 +172,6 @@ impl<'a, A: Allocator> Making<'a, A> {
             self.add(&parent, own[index])?;
         }
         Ok(())
-    }
-
-    /// Returns how many bytes the string of a state has.
-    fn depth(&self, sid: StateID) -> usize
-        requires within { sid < length self.now.states.now }
-        ensures { result ≡ (state_at self.now.states.now sid).depth }
-    {
-        self.states[sid.as_usize()].depth as usize
     }
 }
 
@@ -212,14 +183,19 @@ pub(super) fn commits_of<A: Allocator + Clone>(
     common: &Common<A>,
     lists: &TrieLists<A>,
 ) -> Result<Commits<A>, AllocError>
-    requires is_trie { (nodes : List Node) × IsTrie
-        (trie_of common.now lists.now.order.items lists.now.transitions.items lists.now.states.items) nodes }
-    ensures { IfOk result (HasCommits (automaton_of
-        (trie_of common.now lists.now.order.items lists.now.transitions.items lists.now.states.items))) }
+    requires is_trie { (nodes : List Node) × IsTrie (trie_by common.now (lists_by lists.now)) nodes }
+    ensures { IfOk result (HasCommits (automaton_of (trie_by common.now (lists_by lists.now)))) }
 {
     let mut making = Making::new(lists)?;
-    if common.match_kind().is_leftmost() && common.min_pattern_len() > 0 {
+    if reads_on(common) {
         making.add_all()?;
     }
     Ok(Commits::new(making.commits, making.chains))
+}
+
+/// Returns whether walks read on from match to match.
+fn reads_on<A: Allocator>(common: &Common<A>) -> bool
+    ensures { result ≡ reads_on (built_as common.now Both) }
+{
+    common.match_kind().is_leftmost() && common.min_pattern_len() > 0
 }

@@ -3,7 +3,8 @@ ghost use Rattle.std.specs.Prelude.{◌≡◌, ◌<◌, ◌≤◌, IfOk, List, [
 ghost use Rattle.ac_automaton.specs.Util.{alphabet_len, GREATEST, Node};
 ghost use Rattle.ac_automaton.specs.Prelude.{HasOwn};
 ghost use Rattle.ac_engines.specs.Contiguous.Plans.{HasFormat, all_words};
-ghost use Rattle.ac_engines.specs.Contiguous.Packs.{AppendsWordsOf, AreReady, ForPacked, HasPlaceIn, PacksAll, Pushes, PushesSide, PushesWordsOf, dead_words};
+ghost use Rattle.ac_engines.specs.Contiguous.Packs.{AppendsSide, AppendsWordsOf, AreReady, ForPacked, HasPlaceIn, PacksAll, dead_words};
+ghost use Rattle.ac_engines.specs.Contiguous.Words.{Appends};
 ghost use Rattle.ac_engines.specs.declared.nfa.contiguous.format.Format;
 
 use super::format::Format;
@@ -117,7 +118,7 @@ impl<'a, A: Allocator> Packer<'a, A> {
     /// `AllocError` where a request for memory is refused.
     fn push(&self, buffers: &mut Buffers<A>, sid: StateID) -> Result<(), AllocError>
         requires state { HasPlaceIn self.now sid }
-        ensures { PushesWordsOf self.now sid buffers.old buffers.new result }
+        ensures { AppendsWordsOf self.now sid buffers.old.words.items buffers.new.words.items result }
     {
         let plan = self.plan;
         if plan.is_match(sid) {
@@ -153,7 +154,7 @@ impl<'a, A: Allocator> Packer<'a, A> {
     /// `AllocError` where a request for memory is refused.
     fn push_lists(&self, buffers: &mut Buffers<A>, sid: StateID) -> Result<(), AllocError>
         requires state { HasPlaceIn self.now sid }
-        ensures { PushesWordsOf self.now sid buffers.old buffers.new result }
+        ensures { AppendsWordsOf self.now sid buffers.old.words.items buffers.new.words.items result }
     {
         let plan = self.plan;
         self.list_edges(&mut buffers.edges, sid)?;
@@ -178,7 +179,7 @@ impl<'a, A: Allocator> Packer<'a, A> {
     /// `AllocError` where a request for memory is refused.
     fn push_dead(&self, buffers: &mut Buffers<A>) -> Result<(), AllocError>
         requires few { alphabet_len self.now.plan.classes ≤ 256 }
-        ensures { Pushes buffers.old buffers.new (dead_words self.now.plan) result }
+        ensures { Appends buffers.old.words.items buffers.new.words.items (dead_words self.now.plan) result }
     {
         let state_fields = StateFields {
             failure: 0,
@@ -201,7 +202,7 @@ impl<'a, A: Allocator> Packer<'a, A> {
     /// `AllocError` where a request for memory is refused.
     fn push_where(&self, buffers: &mut Buffers<A>, front: bool) -> Result<(), AllocError>
         requires ready { (nodes : List Node) × AreReady self.now nodes }
-        ensures { PushesSide self.now front buffers.old buffers.new result }
+        ensures { AppendsSide self.now front buffers.old.words.items buffers.new.words.items result }
     {
         let plan = self.plan;
         for state in START..plan.nfa.states_len() {

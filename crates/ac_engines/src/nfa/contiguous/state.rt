@@ -1,8 +1,9 @@
 //! Reading the words of a state.
-ghost use Rattle.std.specs.Prelude.{◌≡◌, ◌≢◌, ◌+◌, ◌<◌, ◌≤◌, [], drop, length};
+ghost use Rattle.std.specs.Prelude.{◌≡◌, ◌≢◌, ◌+◌, ◌<◌, ◌≤◌, [], drop, length, ⊤};
 ghost use Rattle.ac_util.specs.Input.{more_looks};
 ghost use Rattle.ac_engines.specs.declared.nfa.contiguous.format.Format.{Format};
-ghost use Rattle.ac_engines.specs.Contiguous.Words.{AreMatchWords, AreNamed, BeginSparse, BeginWithState, BeginsWith, EachState, SomeStateOf, IsPlaceIn, LeadsBy, MatchesAt, PackedState, SomeState, SparseLeadsBy, StateOf, transitions_of_state};
+ghost use Rattle.ac_engines.specs.Contiguous.Words.{BeginsWith, PackedState};
+ghost use Rattle.ac_engines.specs.Contiguous.Reads.{AreMatchWords, AreNamed, BeginSparse, EachState, IsPlaceIn, LeadsBy, MatchesAt, SomeState, SomeStateOf, SparseLeadsBy, StateOf, transitions_of_state};
 
 use super::format::{CLASSES_A_WORD, HEAD};
 use super::transitions::Transitions;
@@ -48,7 +49,7 @@ impl<'a> State<'a> {
     /// Returns the failure target.
     #[inline]
     pub(super) fn fail(self) -> u32
-        requires { BeginWithState self.words.now }
+        requires { SomeState self.words.now (λ format classes s. ⊤) }
         ensures { EachState self.entry.words.now (λ format classes s. result ≡ s.failure) }
     {
         self.words[1]

@@ -1,7 +1,7 @@
 //! Going through the transitions of a state.
 ghost use Rattle.std.specs.Prelude.{◌≡◌, ◌/◌, ◌<◌, IfSome, length};
 ghost use Rattle.std.specs.Iterator.{YieldsFirst, item_count};
-ghost use Rattle.ac_engines.specs.Contiguous.Words.{class_of_place};
+ghost use Rattle.ac_engines.specs.Contiguous.Reads.{class_of_place};
 
 use super::format::CLASSES_A_WORD;
 use super::state::Edge;
@@ -24,7 +24,7 @@ pub(super) struct Transitions<'a> {
 impl<'a> Model for Transitions<'a> {
     ghost use Rattle.std.specs.Prelude.{◌+◌, ◌*◌, ◌≤◌, IfSome, List, length};
     ghost use Rattle.ac_engines.specs.declared.nfa.contiguous.state.Edge.{Edge};
-    ghost use Rattle.ac_engines.specs.Contiguous.Words.{class_of_place, edges_from};
+    ghost use Rattle.ac_engines.specs.Contiguous.Reads.{class_of_place, edges_from};
 
     ghost Value = { List Edge };
 

@@ -1,8 +1,8 @@
-use Rattle.std.proofs.Common.{◌≡◌, ◌∙◌, ◌+◌, ℕ, List, Some, None, Ok, Err, take, sym, ap, subst, slice_range, arith, rules}
+use Rattle.std.proofs.Common.{◌≡◌, ◌∙◌, ◌+◌, ℕ, List, Some, None, Ok, Err, sym, ap, subst, slice_range, arith, rules}
 use Rattle.std.proofs.lemmas.Grind.{common_steps}
-use Rattle.ac_automaton.specs.Prelude.{GivesMatch, IsSettledIn, matches_so_far, PassesPiece, Steps, Streaming}
+use Rattle.ac_automaton.specs.Prelude.{GivesMatch, PassesPiece, Streaming}
 use Rattle.ac_automaton.proofs.Places.{refused-by}
-use Rattle.ac_automaton.proofs.StreamExchanging.{exchange-fails, gap-fails, last-fails, last-flushed, replaced-match}
+use Rattle.ac_automaton.proofs.StreamExchanging.{exchange-fails, fails-further, gap-fails, last-fails, last-flushed, replaced-match}
 use Rattle.ac_automaton.proofs.automaton.stream_replace.exchange_read.Given.{Over}
 use Rattle.ac_automaton.proofs.automaton.stream_replace.exchange_read.Goals.{After-bytes, After-exchange, After-pass-in-loop-found}
 use Rattle.ac_automaton.proofs.automaton.stream_replace.exchange_read.Goals as goal
@@ -55,16 +55,12 @@ returns-in_err-pass-2-clause-exchanged g c =
     c.in_err-pass-2.ensures.passes in
     refused-by c.from_residual-in_err-pass-2.result e _ _
     c.from_residual-in_err-pass-2.ensures.1
-    (λ first done.
-    subst (λ (w : Streaming). (given place : ℕ) × IsSettledIn w.phase w.built w.bytes given place
-    × Steps passing calls (take place w.bytes) 0 (take given (matches_so_far w)) first (Some e)
-    (record { closure = c.pass-in-loop-found.new.self; destination = c.pass-in-loop-found.new.writer }))
-    c.loop-found.invariant.same (
-      gives.settled.given,
-      gives.settled.place,
-      gives.settled.settled,
-      gap-fails passing calls v first _ (c.loop-found.invariant.replaced first done) m _ gives e _ fails,
-    ))
+    (fails-further passing calls c.loop-found.invariant.same (record {
+      given = gives.settled.given;
+      place = gives.settled.place;
+      settled = gives.settled.settled;
+      steps = λ count from first done. gap-fails passing calls v first _ done m _ gives e _ fails;
+    }) c.loop-found.invariant.replaced)
 
 -- these bytes were passed on, and what is handed over is the match's slice
 module _ (g : Over) (c : After-exchange g) where
@@ -98,8 +94,8 @@ loop-found-preserved g c =
           (sym (ap (λ (w : Streaming). w.given) gives.same))
           ∙ ap (λ (k : ℕ). record c.args.finder.now { given = c.next_read.new.self.given; kept = k })
           (sym (ap (λ (w : Streaming). w.kept) gives.same));
-      replaced = λ first done.
-          replaced-match passing calls v first _ (c.loop-found.invariant.replaced first done) m _ gives
+      replaced = λ count from first done.
+          replaced-match passing calls v first _ (c.loop-found.invariant.replaced count from first done) m _ gives
           (record { closure = c.pass-in-loop-found.new.self; destination = c.pass-in-loop-found.new.writer })
           passed _
           (subst (λ (w : List ℕ). calls m w
@@ -119,21 +115,19 @@ returns-in_err-exchange-clause-exchanged g c =
     let d = (goal.at.returns-in_err-exchange-clause-exchanged g c).After-exchange in
     let passed = passes g d (before-match g (goal.at.returns-in_err-exchange-clause-exchanged g c).After-pass-in-loop-found) in
     refused-by c.from_residual-in_err-exchange.result e _ _ c.from_residual-in_err-exchange.ensures.1
-    (λ first done.
-    subst (λ (w : Streaming). (given place : ℕ) × IsSettledIn w.phase w.built w.bytes given place
-    × Steps passing calls (take place w.bytes) 0 (take given (matches_so_far w)) first (Some e)
-    (record { closure = c.exchange.new.self; destination = c.exchange.new.writer })) c.loop-found.invariant.same (
-      gives.settled.given,
-      gives.settled.place,
-      gives.settled.settled,
-      exchange-fails passing calls v first _ (c.loop-found.invariant.replaced first done) m _ gives
+    (fails-further passing calls c.loop-found.invariant.same (record {
+      given = gives.settled.given;
+      place = gives.settled.place;
+      settled = gives.settled.settled;
+      steps = λ count from first done.
+          exchange-fails passing calls v first _ done m _ gives
           (record { closure = c.pass-in-loop-found.new.self; destination = c.pass-in-loop-found.new.writer })
           passed e _
           (subst (λ (w : List ℕ). calls m w
           (record { closure = c.pass-in-loop-found.new.self; destination = c.pass-in-loop-found.new.writer }) (Err e)
           (record { closure = c.exchange.new.self; destination = c.exchange.new.writer })) (slice g d)
-          c.in_err-exchange.ensures.calls),
-    ))
+          c.in_err-exchange.ensures.calls);
+    }) c.loop-found.invariant.replaced)
 
 pub bytes-requires-in-loop-found-clause-in_buffer : goal.bytes-requires-in-loop-found-clause-in_buffer
 bytes-requires-in-loop-found-clause-in_buffer g c = grind (arith, common_steps)

@@ -1,4 +1,4 @@
-use Rattle.std.proofs.Common.{◌≡◌, ◌-◌, length}
+use Rattle.std.proofs.Common.{◌≡◌, ◌-◌, ℕ, length}
 use Rattle.ac_automaton.specs.Util.{Occurrence, Replacing}
 use Rattle.ac_automaton.specs.Prelude.{HasReplaced, matches_so_far}
 use Rattle.ac_automaton.proofs.automaton.stream_replace.exchange_read.Given as goal
@@ -9,10 +9,10 @@ invariant-loop-found g l =
     let E = g.E.Exchange in record {
       accepted : (m : Occurrence) → E.accepts l.fn.exchange m → E.accepts l.exchange m;
       same : l.finder ≡ record l.fn.finder { given = l.finder.given; kept = l.finder.kept };
-      replaced : (first : Replacing _ _)
-          → HasReplaced E.passing E.calls l.fn.finder first
+      replaced : (count from : ℕ) (first : Replacing _ _)
+          → HasReplaced E.passing E.calls count from l.fn.finder first
           (record { closure = l.fn.exchange; destination = l.fn.writer })
-          → HasReplaced E.passing E.calls l.finder first
+          → HasReplaced E.passing E.calls count from l.finder first
           (record { closure = l.exchange; destination = l.writer });
     }
 

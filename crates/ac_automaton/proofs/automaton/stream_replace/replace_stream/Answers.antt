@@ -39,10 +39,10 @@ loop-finder-preserved g c =
 pub returns-in_err-exchange_read : goal.returns-in_err-exchange_read
 returns-in_err-exchange_read g c =
     let inv = c.loop-finder.invariant in
-    let on = fills g.E.Exchange.passing g.E.Exchange.calls g.R.Source.empty_means_end _ _ _ inv.on inv.within (filled g (goal.at.returns-in_err-exchange_read g c).After-exchange_read) in
     refused-by c.from_residual-in_err-exchange_read.result c.in_err-exchange_read.field-0.0 _ _
     c.from_residual-in_err-exchange_read.ensures.1
-    (fails-exchanging g.E.Exchange.passing g.E.Exchange.calls g.R.Source.empty_means_end _ _ _ on
+    (fails-exchanging g.E.Exchange.passing g.E.Exchange.calls g.R.Source.empty_means_end _ _ _ inv.on inv.within inv.settled inv.near
+    (filled g (goal.at.returns-in_err-exchange_read g c).After-exchange_read)
     c.in_err-exchange_read.field-0.0 _ c.in_err-exchange_read.ensures.exchanged)
 
 pub returns : goal.returns
@@ -58,7 +58,8 @@ returns g c =
     let on = ends-there g.E.Exchange.passing g.E.Exchange.calls g.R.Source.empty_means_end _ _ _ inv.on inv.within met in
     match-by c.exchange_read-2.result _ _
     (λ done exchanged. replaces g.E.Exchange.passing g.E.Exchange.calls g.R.Source.empty_means_end _ _ _ on exchanged)
-    (λ e fails. fails-at-last g.E.Exchange.passing g.E.Exchange.calls g.R.Source.empty_means_end _ _ _ on e _ fails)
+    (λ e fails. fails-at-last g.E.Exchange.passing g.E.Exchange.calls g.R.Source.empty_means_end _ _ _ inv.on inv.within inv.settled inv.near
+    met e _ fails)
     c.exchange_read-2.ensures.exchanged
 
 pub fill-requires-clause-settled : goal.fill-requires-clause-settled

@@ -4,7 +4,9 @@ use Rattle.ac_engines.proofs.Numbers.{row-within, stands-step}
 use Rattle.ac_engines.proofs.dfa.DFAAutomaton.next_state.Goals as goal
 
 pub look-requires : goal.look-requires
-look-requires g c = grind (arith, common_steps, row-within c.args.self.now c.args._anchored c.args.sid c.requires.state.0 c.args.byte c.requires.state.1 c.ranges.byte.fits)
+look-requires g c =
+    let (u, stands) = c.requires.state in
+    grind (arith, common_steps, row-within c.args.self.now c.args._anchored c.args.sid u c.args.byte stands c.ranges.byte.fits)
 
 pub returns-clause-steps : goal.returns-clause-steps
 returns-clause-steps g c = search (rules, stands-step)

@@ -2,6 +2,7 @@ use Rattle.std.proofs.Common.{◌≡◌, ◌⊎◌, ℕ, refl, subst, sym, ◌�
 use Rattle.ac_util.specs.declared.search.Anchored.{Anchored}
 use Rattle.ac_automaton.specs.Util.{No}
 use Rattle.ac_automaton.specs.Prelude.{FindsIn, Finding, finding_of}
+use Rattle.ac_automaton.specs.Scans.{tape_with}
 use Rattle.ac_automaton.proofs.FindGives.{finds-pick, free-some, free-unanchored, none-empty}
 use Rattle.ac_automaton.proofs.FindLoop.{searched-nothing}
 use Rattle.ac_automaton.proofs.automaton.find.Finder.find.Goals as goal
@@ -15,10 +16,11 @@ pub returns-clause-finds : goal.returns-clause-finds
 returns-clause-finds g c =
     let free = sym c.self.invariant.free ∙ c.if-not-self.false in
     let core = c.self.inside.core in
-    subst (λ (f : Finding). FindsIn f c.args.span c.args.tape.now c.args.looks.now c.find_first.result c.find_first.new.tape c.find_first.new.looks)
+    subst (λ (f : Finding). FindsIn f c.args.span (tape_with c.args.tape.now c.args.looks.now) c.find_first.result
+    (tape_with c.find_first.new.tape c.find_first.new.looks))
     c.self.view_is
-    (subst (λ (x : Anchored). FindsIn (finding_of (g.A.Automaton.seen core.automaton.now) x core.stops) c.args.span c.args.tape.now
-    c.args.looks.now c.find_first.result c.find_first.new.tape c.find_first.new.looks)
+    (subst (λ (x : Anchored). FindsIn (finding_of (g.A.Automaton.seen core.automaton.now) x core.stops) c.args.span (tape_with c.args.tape.now
+    c.args.looks.now) c.find_first.result (tape_with c.find_first.new.tape c.find_first.new.looks))
     (sym (free-unanchored c.self.inside.anchored (g.A.Automaton.seen core.automaton.now).built.patterns free)) (record {
       searched = finds-pick g.A.Automaton.seen core (c.self.invariant.lawful c.if-not-self.false)
           (subst (λ (n : ℕ). (n ≡ 1) ⊎ (n ≡ 2)) (sym (g.met.A.Automaton.allows core.automaton.now)) g.met.A.Automaton.one_or_two)

@@ -30,8 +30,12 @@ pattern_len-len-requires g c = record {
 pub returns-then-not-is_due : goal.returns-then-not-is_due
 returns-then-not-is_due g c = search (rules, found-not_due)
 
-pub overflow_sub-end-2 : goal.overflow_sub-end-2
-overflow_sub-end-2 g c = search (rules, fits)
+pub match_ending-requires-clause-numbered : goal.match_ending-requires-clause-numbered
+match_ending-requires-clause-numbered g c =
+    (fits g (goal.at.match_ending-requires-clause-numbered g c).After-is_match _ c.match_pattern-pattern.ensures).numbered
+
+pub match_ending-requires-clause-within : goal.match_ending-requires-clause-within
+match_ending-requires-clause-within g c = search (rules, fits)
 
 -- else the first match ends here
 pub returns : goal.returns

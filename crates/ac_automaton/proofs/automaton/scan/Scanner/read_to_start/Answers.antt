@@ -13,7 +13,11 @@ is_to_skip-requires g c = (let v = (may-go-on c.requires.may c.loop-cursor.invar
 
 -- it has come to its start
 pub returns-then-is_to_skip : goal.returns-then-is_to_skip
-returns-then-is_to_skip g c = (c.loop-cursor.invariant.on, c.loop-cursor-test.true, c.is_to_skip.ensures c.if-is_to_skip.true)
+returns-then-is_to_skip g c = record {
+  reading = c.loop-cursor.invariant;
+  before = c.loop-cursor-test.true;
+  at_start = c.is_to_skip.ensures c.if-is_to_skip.true;
+}
 
 pub read_rest-dead-requires-clause-may : goal.read_rest-dead-requires-clause-may
 read_rest-dead-requires-clause-may g c = may-go-on c.requires.may c.loop-cursor.invariant

@@ -68,6 +68,9 @@ returns-in-Ok g c =
     record {
       more = more;
       some = omega arith;
+      room = (let w = took.within in let cut = length-drop at c.read_after.new.buffer in
+          let long = as_long g d in let is = ap (length {A = ℕ}) (whole g d) in
+          let size' = ap (λ (v : Streaming). v.buffer) e in omega arith);
       reads = record {
         moved = took.moved;
         failed = took.failed;

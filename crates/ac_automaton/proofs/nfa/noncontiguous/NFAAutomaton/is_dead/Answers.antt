@@ -6,7 +6,7 @@ use Rattle.ac_automaton.proofs.nfa.noncontiguous.NFAAutomaton.is_dead.Goals as g
 
 pub returns : goal.returns
 returns g c = λ anchored u h.
-    let dead = dead-number c.args.self.now c.args.sid u h in
+    let dead = dead-number h.is_trie.states c.args.sid u h.named in
     rw c.as_usize.ensures.value (
       (λ below. dead.0 (ltb-true c.args.sid START below)),
       (λ none. (Decides-ltb c.args.sid START).1 (dead.1 none)),

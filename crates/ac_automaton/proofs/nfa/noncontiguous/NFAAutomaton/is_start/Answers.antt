@@ -7,7 +7,7 @@ use Rattle.ac_automaton.proofs.nfa.noncontiguous.NFAAutomaton.is_start.Goals as 
 
 pub returns-then-as_usize-ge-START : goal.returns-then-as_usize-ge-START
 returns-then-as_usize-ge-START g c = λ anchored u h.
-    let start = start-number c.args.self.now c.args.sid u h in
+    let start = start-number h.is_trie.states c.args.sid u h.named in
     rw c.as_usize-then-as_usize-ge-START.ensures.value (
       (λ below. start.0 (omega arith, ltb-true c.args.sid FIRST_INNER below)),
       (λ empty. (Decides-ltb c.args.sid FIRST_INNER).1 (start.1 empty).1),

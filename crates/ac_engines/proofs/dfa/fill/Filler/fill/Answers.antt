@@ -27,17 +27,16 @@ pub fill_state-requires-in-loop-state : goal.fill_state-requires-in-loop-state
 fill_state-requires-in-loop-state g c =
     let f = c.args.self.now in
     let size = length c.args.table.now in
-    let may = c.requires.may.1 in
-    let nodes = c.requires.may.0 in
+    let (nodes, may) = c.requires.may in
     let up = c.loop-state.invariant nodes may in
     let states = c.states_len-state-end.ensures.value
     ∙ ap (λ (f : Filling). state_count f.trie.built.kind (plain_of f.trie.built)) c.self.view_is in
     let count = may.are_nodes.numbered.count in
     let more = c.loop-state-test.true in
-    let row = row-at f nodes size may c.loop-state.state c.loop-state.auto.state (omega arith) in (
+    let (w, row) = row-at f nodes size may c.loop-state.state c.loop-state.auto.state (omega arith) in (
       nodes,
-      row.0,
-      rw (up.long, c.must-in-loop-state.ensures.value) row.1,
+      w,
+      rw (up.long, c.must-in-loop-state.ensures.value) row,
       rw (up.long, c.must-in-loop-state.ensures.value) up,
     )
 
@@ -51,8 +50,8 @@ loop-state-preserved g c = λ nodes may.
     ∙ ap (λ (f : Filling). state_count f.trie.built.kind (plain_of f.trie.built)) c.self.view_is in
     let count = may.are_nodes.numbered.count in
     let more = c.loop-state-test.true in
-    let row = row-at f nodes size may c.loop-state.state c.loop-state.auto.state (omega arith) in
-    let next = c.fill_state-in-loop-state.ensures nodes row.0 (rw (up.long, c.must-in-loop-state.ensures.value) row.1)
+    let (w, row) = row-at f nodes size may c.loop-state.state c.loop-state.auto.state (omega arith) in
+    let next = c.fill_state-in-loop-state.ensures nodes w (rw (up.long, c.must-in-loop-state.ensures.value) row)
     (rw (up.long, c.must-in-loop-state.ensures.value) up) in
     subst (λ n. FilledUpTo f nodes n (c.loop-state.state + 1) c.fill_state-in-loop-state.new.table) up.long
     (subst (λ n. FilledUpTo f nodes (length c.loop-state.table) (n + 1) c.fill_state-in-loop-state.new.table)

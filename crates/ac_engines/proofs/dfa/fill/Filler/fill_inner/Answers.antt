@@ -10,45 +10,38 @@ use Rattle.ac_engines.proofs.dfa.fill.Filler.fill_inner.Goals as goal
 -- the state stands after the starts
 pub fail-requires : goal.fail-requires
 fail-requires g c =
-    let m = c.requires.3 in
+    let (w, some, (nodes, m)) = c.requires in
     record {
-      inner = inner-row c.args.self.now c.requires.0 (length c.args.table.now) c.args.sid c.requires.1 m.row c.requires.2;
+      inner = inner-row c.args.self.now nodes (length c.args.table.now) c.args.sid w m.row some;
       numbered = rw (ap (λ (f : Filling). f.trie) c.self.view_is, sym m.row.may.are_nodes.numbered.count)
-          (slice_get_within c.requires.0 c.args.sid (Some c.requires.1) m.row.named);
+          (slice_get_within nodes c.args.sid (Some w) m.row.named);
     }
 
 -- it has a row, and so has its failure target
 pub first_row-from-requires : goal.first_row-from-requires
 first_row-from-requires g c =
-    let m = c.requires.3 in
-    let within = slice_get_within c.requires.0 c.args.sid (Some c.requires.1) m.row.named in
+    let (w, some, (nodes, m)) = c.requires in
+    let within = slice_get_within nodes c.args.sid (Some w) m.row.named in
     record {
       numbered = rw (ap (λ (f : Filling). f.numbers) c.self.view_is, m.row.may.laid.count)
           (omega (arith, c.fail.ensures.back, within));
     }
 
-pub number-requires : goal.number-requires
-number-requires g c = (c.requires.0, length c.args.table.now, c.requires.1, c.requires.3.row)
-
-pub set_own-requires : goal.set_own-requires
-set_own-requires g c = (c.requires.0, c.requires.1, rw c.copy_row.ensures.same_length c.requires.3.row)
-
 -- both rows lie in the table, and apart
 pub copy_row-requires : goal.copy_row-requires
 copy_row-requires g c =
-    let nodes = c.requires.0 in
-    let m = c.requires.3 in
+    let (w, some, (nodes, m)) = c.requires in
     let f = c.args.self.now in
     let size = length c.args.table.now in
     let may = m.row.may in
     let sid = c.args.sid in
-    let inner = inner-row f nodes size sid c.requires.1 m.row c.requires.2 in
+    let inner = inner-row f nodes size sid w m.row some in
     let count = may.laid.count in
-    let within = slice_get_within nodes sid (Some c.requires.1) m.row.named in
+    let within = slice_get_within nodes sid (Some w) m.row.named in
     let back = c.fail.ensures.back in
     let from = c.first_row-from.ensures.value ∙ ap (λ (f : Filling). slice_index_or f.numbers c.fail.result 0) c.self.view_is in
-    let to = c.as_usize-to.ensures.value ∙ c.number.ensures nodes size c.requires.1 m.row
-    ∙ sym (row-of f nodes size may sid (Some c.requires.1) m.row.named (λ other. absurd (omega arith))) in
+    let to = c.as_usize-to.ensures.value ∙ c.number.ensures nodes size w m.row
+    ∙ sym (row-of f nodes size may sid (Some w) m.row.named (λ other. absurd (omega arith))) in
     let len = c.alphabet_len.ensures.value ∙ ap (λ (f : Filling). alphabet_len f.classes) c.self.view_is in
     let target = classes-within f nodes size may c.fail.result c.fail.ensures.start (omega arith) in
     let own = classes-within f nodes size may sid (λ other. absurd (omega arith)) (omega arith) in
@@ -63,7 +56,7 @@ copy_row-requires g c =
 
 -- the row of the failure target was copied, and own transitions were set over it
 pub returns : goal.returns
-returns g c = λ nodes w some m.
+returns g c = λ w some nodes m.
     let f = c.args.self.now in
     let size = length c.args.table.now in
     let trie = ap (λ (f : Filling). f.trie) c.self.view_is in

@@ -12,23 +12,21 @@ not-empty f nodes size s w h other = search (rules, inner-string)
 
 pub fill_inner-requires : goal.fill_inner-requires
 fill_inner-requires g c =
-    let m = rw c.in-No.is at c.requires.2 in (
-      c.requires.0,
-      c.requires.1,
-      not-empty c.args.self.now c.requires.0 (length c.args.table.now) c.args.sid c.requires.1 m.row
-          (λ start. c.if-as_usize-eq-START.false (c.as_usize.ensures.value ∙ start)),
-      m,
-    )
+    let (w, (nodes, may)) = c.requires in
+    let m = rw c.in-No.is at may in
+    let some = not-empty c.args.self.now nodes (length c.args.table.now) c.args.sid w m.row
+    (λ start. c.if-as_usize-eq-START.false (c.as_usize.ensures.value ∙ start)) in
+    (w, some, (nodes, m))
 
 pub returns-in-Yes : goal.returns-in-Yes
-returns-in-Yes g c = λ nodes w m'.
-    let m = rw c.in-Yes.is at m' in
+returns-in-Yes g c = λ w nodes may.
+    let m = rw c.in-Yes.is at may in
     rw c.in-Yes.is (anchored-filled c.args.self.now nodes (length c.args.table.now) c.args.sid w m.row c.args.table.now
     c.set_own.new.table m (c.set_own.ensures nodes w m.row))
 
 pub returns-in-No-2 : goal.returns-in-No-2
-returns-in-No-2 g c = λ nodes w m'.
-    let m = rw c.in-No.is at m' in
+returns-in-No-2 g c = λ w nodes may.
+    let m = rw c.in-No.is at may in
     let some = not-empty c.args.self.now nodes (length c.args.table.now) c.args.sid w m.row
     (λ start. c.if-as_usize-eq-START.false (c.as_usize.ensures.value ∙ start)) in
-    rw c.in-No.is (c.fill_inner.ensures nodes w some m)
+    rw c.in-No.is (c.fill_inner.ensures w some nodes m)

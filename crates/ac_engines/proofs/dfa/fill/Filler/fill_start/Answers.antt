@@ -9,10 +9,10 @@ use Rattle.ac_engines.proofs.dfa.fill.Filler.fill_start.Goals as goal
 
 pub lead_all-requires : goal.lead_all-requires
 lead_all-requires g c =
-    let m = c.requires.1 in
+    let (nodes, m) = c.requires in
     let size = length c.args.table.now in
-    let row = c.number-start.ensures c.requires.0 size [] (rw c.must-sid.ensures.value m.row) in
-    let room = row-room c.args.self.now c.requires.0 size 2 [] m.row No in
+    let row = c.number-start.ensures nodes size [] (rw c.must-sid.ensures.value m.row) in
+    let room = row-room c.args.self.now nodes size 2 [] m.row No in
     let len = c.alphabet_len.ensures.value in
     let classes = ap (λ (f : Filling). alphabet_len f.classes) c.self.view_is in
     let fits = m.row.may.room in

@@ -1,35 +1,31 @@
-use Rattle.std.proofs.Common.{ap, sym, subst, arith, length, ◌∙◌, ◌++◌, ◌∷◌, [], Some, take_all, rules}
+use Rattle.std.proofs.Common.{ap, sym, subst, arith, length, ◌∙◌, ◌++◌, ◌∷◌, [], Some, take_all}
 use Rattle.ac_automaton.specs.Util.{alphabet_len, class_at, plain_byte}
 use Rattle.ac_automaton.specs.Prelude.{AreNodes, IsOwn, transition_bytes_of, Trie}
 use Rattle.ac_engines.specs.Dfa.Filling.{Filling, HasSet, row_input}
-use Rattle.ac_engines.proofs.Owning.{next-row, numbered-below, own-more, transition_bytes_of-starts, row-room}
+use Rattle.ac_engines.proofs.Owning.{next-row, own-more, transition_bytes_of-starts, row-room}
 use Rattle.ac_engines.proofs.dfa.fill.Filler.set_own.Goals as goal
-
-pub own-byte-requires-clause-numbered : goal.own-byte-requires-clause-numbered
-own-byte-requires-clause-numbered g c = search (rules, numbered-below)
 
 -- an own transition, as the reader says it
 pub number-requires-in-loop-index : goal.number-requires-in-loop-index
 number-requires-in-loop-index g c =
-    let h = c.requires.2 in
+    let (nodes, w, h) = c.requires in
+    let (byte, next) = c.own-byte.result in
     let trie = ap (λ (f : Filling). f.trie) c.self.view_is in
-    let own = subst (λ (t : Trie). IsOwn t c.requires.0 c.requires.1 c.loop-index.index c.own-byte.result.0 c.own-byte.result.1)
-    trie (c.own-byte.ensures c.requires.0 c.requires.1
-    (subst (λ (t : Trie). AreNodes t c.requires.0) (sym trie) h.may.are_nodes) h.named) in (
-      c.requires.0,
+    let own = subst (λ (t : Trie). IsOwn t nodes w c.loop-index.index byte next) trie
+    (c.own-byte.ensures nodes w (subst (λ (t : Trie). AreNodes t nodes) (sym trie) h.may.are_nodes) h.named) in (
+      nodes,
       length c.args.table.now,
-      c.requires.1 ++ plain_byte c.args.self.now.trie.built.ignores_case c.own-byte.result.0 ∷ [],
-      next-row c.args.self.now c.requires.0 (length c.args.table.now) c.args.sid c.requires.1 h c.loop-index.index
-          c.own-byte.result.0 c.own-byte.result.1 own,
+      w ++ plain_byte c.args.self.now.trie.built.ignores_case byte ∷ [],
+      next-row c.args.self.now nodes (length c.args.table.now) c.args.sid w h c.loop-index.index byte next own,
     )
 
 -- the row lies in the table
 pub bounds-table-row : goal.bounds-table-row
 bounds-table-row g c =
-    let h = c.requires.2 in
-    let row = c.number.ensures c.requires.0 (length c.args.table.now) c.requires.1 h in
+    let (nodes, w, h) = c.requires in
+    let row = c.number.ensures nodes (length c.args.table.now) w h in
     let at = c.as_usize-row.ensures.value in
-    let room = row-room c.args.self.now c.requires.0 (length c.args.table.now) c.args.sid c.requires.1 h c.args.anchored in
+    let room = row-room c.args.self.now nodes (length c.args.table.now) c.args.sid w h c.args.anchored in
     let below = c.get.ensures.small in
     let len = ap (λ (f : Filling). alphabet_len f.classes) c.self.view_is in
     let fits = h.may.room in
@@ -39,17 +35,18 @@ bounds-table-row g c =
 -- one more is set
 pub loop-index-preserved : goal.loop-index-preserved
 loop-index-preserved g c = λ nodes w h.
+    let (byte, after) = c.own-byte.result in
     let trie = ap (λ (f : Filling). f.trie) c.self.view_is in
-    let own = subst (λ (t : Trie). IsOwn t nodes w c.loop-index.index c.own-byte.result.0 c.own-byte.result.1)
+    let own = subst (λ (t : Trie). IsOwn t nodes w c.loop-index.index byte after)
     trie (c.own-byte.ensures nodes w (subst (λ (t : Trie). AreNodes t nodes) (sym trie) h.may.are_nodes) h.named) in
     let row = c.as_usize-row.ensures.value ∙ c.number.ensures nodes (length c.args.table.now) w h in
-    let class = c.get.ensures.value ∙ ap (λ (f : Filling). class_at f.classes c.own-byte.result.0) c.self.view_is in
+    let class = c.get.ensures.value ∙ ap (λ (f : Filling). class_at f.classes byte) c.self.view_is in
     let next = next-row c.args.self.now nodes (length c.args.table.now) c.args.sid w h c.loop-index.index
-    c.own-byte.result.0 c.own-byte.result.1 own in
+    byte after own in
     let number = c.number-in-loop-index.ensures nodes (length c.args.table.now)
-    (w ++ plain_byte c.args.self.now.trie.built.ignores_case c.own-byte.result.0 ∷ []) next in
+    (w ++ plain_byte c.args.self.now.trie.built.ignores_case byte ∷ []) next in
     rw (row, class) (own-more c.args.self.now nodes (length c.args.table.now) c.args.sid w h c.loop-index.index
-    c.own-byte.result.0 c.own-byte.result.1 own c.args.anchored c.number-in-loop-index.result c.args.table.now
+    byte after own c.args.anchored c.number-in-loop-index.result c.args.table.now
     c.loop-index.table c.loop-index.auto.table number (c.loop-index.invariant nodes w h))
 
 -- all have been set

@@ -6,7 +6,7 @@ use Rattle.ac_automaton.specs.Automata.{plain_of}
 use Rattle.ac_automaton.proofs.Heads.{nil-from_not}
 use Rattle.ac_engines.specs.Dfa.Layouts.{rows_each, table_rows}
 use Rattle.ac_engines.proofs.LaidOut.{four-empty, laid-out, two-empty}
-use Rattle.ac_engines.proofs.LaidUpTo.{IsLaidUpTo, named-inner, none-laid, plan_of, room-left}
+use Rattle.ac_engines.proofs.LaidUpTo.{IsLaidUpTo, named-inner, none-laid, plan_of}
 use Rattle.ac_engines.proofs.Laying.{one-more-laid, row-number}
 use Rattle.ac_engines.proofs.RowLists.{table_rows-each, unmatched}
 use Rattle.ac_engines.proofs.dfa.layout.Layout.of.Goals.{then-is_match, else-is_match}
@@ -21,24 +21,6 @@ loop-state-init g c = λ nodes h.
     (none-laid (plan_of c.args.nfa.now c.args.start_kind c.args.stride2 nodes) (table_rows c.args.start_kind states)
     (omega (arith, count))
     (table_rows-each c.args.start_kind states (omega arith) ∙ ap (λ n. 4 + rows_each c.args.start_kind * (n - 4)) (sym count)))
-
--- there are states, and few
-pub table_rows-requires-clause-first : goal.table_rows-requires-clause-first
-table_rows-requires-clause-first g c = omega (arith, c.states_len-states.ensures.value)
-
-pub table_rows-requires-clause-few : goal.table_rows-requires-clause-few
-table_rows-requires-clause-few g c = c.states_len-states.ensures.small
-
-pub must-requires : goal.must-requires
-must-requires g c = record { small = omega (arith, c.loop-state-test.true, c.states_len-states.ensures.small) }
-
--- rows are left for the state
-pub place-requires-clause-room : goal.place-requires-clause-room
-place-requires-clause-room g c =
-    let (nodes, h) = c.states_len-states.ensures.numbered in
-    room-left (plan_of c.args.nfa.now c.args.start_kind c.args.stride2 nodes) c.loop-state.state c.loop-state.numbers.items _ _ _
-    (c.loop-state.invariant nodes h)
-    (omega (arith, h.numbered.count, c.states_len-states.ensures.value, c.loop-state-test.true))
 
 -- each state stands for a node
 pub place-requires-clause-state : goal.place-requires-clause-state
@@ -83,14 +65,6 @@ pub is_match-requires : goal.is_match-requires
 is_match-requires g c =
     let (nodes, h) = c.states_len-states.ensures.numbered in
     record { state = (No, (Some [], rw c.must-2.ensures.value (h.stands 2 (Some []) h.start))) }
-
--- the first with matches is one of the first
-pub number-requires-clause-small : goal.number-requires-clause-small
-number-requires-clause-small g c =
-    elim c.if-is_match.branch [
-      | then-is_match w ↦ rw w.first-is (omega arith)
-      | else-is_match w ↦ rw w.first-is (omega arith)
-    ]
 
 -- all states have their rows
 pub returns : goal.returns

@@ -4,4 +4,5 @@ use Rattle.ac_engines.proofs.nfa.contiguous.NFA.state.Goals as goal
 
 -- the number of a state is a place in the words
 pub at-requires : goal.at-requires
-at-requires g c = search (rules, stands-within c.args.self.now (c.requires).0 c.args.sid (c.requires).1.0 (c.requires).1.1)
+at-requires g c =
+    let (anchored, (u, stands)) = c.requires in search (rules, stands-within c.args.self.now anchored c.args.sid u stands)

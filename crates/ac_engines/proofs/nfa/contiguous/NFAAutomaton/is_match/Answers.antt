@@ -7,8 +7,8 @@ use Rattle.ac_engines.proofs.nfa.contiguous.NFAAutomaton.is_match.Goals as goal
 -- a number after 0 and before the end of the matches' is that of a match state
 pub returns-then-as_usize-gt-DEAD : goal.returns-then-as_usize-gt-DEAD
 returns-then-as_usize-gt-DEAD g c =
-    let r = c.requires.state in
-    let number = match-number c.args.self.now r.0 c.args.sid r.1.0 r.1.1 in
+    let (anchored, (u, stands)) = c.requires.state in
+    let number = match-number c.args.self.now anchored c.args.sid u stands in
     let end = ap (λ (p : ContiguousView). p.match_end) c.self.view_is in
     let value = c.as_usize.ensures.value in
     let other = c.as_usize-then-as_usize-gt-DEAD.ensures.value in

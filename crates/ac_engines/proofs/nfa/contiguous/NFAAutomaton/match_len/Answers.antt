@@ -6,15 +6,15 @@ use Rattle.ac_engines.proofs.nfa.contiguous.NFAAutomaton.match_len.Goals as goal
 
 pub match_len-requires : goal.match_len-requires
 match_len-requires g c =
-    let r = c.requires.state in
-    let b = begins c.args.self.now r.0 c.args.sid r.1.0 r.1.1 c.state.result.words.now c.alphabet_len.result c.state.ensures
+    let (anchored, (u, stands)) = c.requires.state in
+    let b = begins c.args.self.now anchored c.args.sid u stands c.state.result.words.now c.alphabet_len.result c.state.ensures
     (c.alphabet_len.ensures.value ∙ ap (λ (p : ContiguousView). alphabet_len p.classes) c.self.view_is) in
     (b.format, b.as_packed, b.words, λ none. c.requires.matches (sym b.same ∙ none))
 
 pub returns : goal.returns
 returns g c =
-    let r = c.requires.state in
-    let b = begins c.args.self.now r.0 c.args.sid r.1.0 r.1.1 c.state.result.words.now c.alphabet_len.result c.state.ensures
+    let (anchored, (u, stands)) = c.requires.state in
+    let b = begins c.args.self.now anchored c.args.sid u stands c.state.result.words.now c.alphabet_len.result c.state.ensures
     (c.alphabet_len.ensures.value ∙ ap (λ (p : ContiguousView). alphabet_len p.classes) c.self.view_is) in
     c.match_len.ensures b.format b.as_packed b.words (λ none. c.requires.matches (sym b.same ∙ none))
     ∙ ap (λ (ms : List ℕ). length ms) b.same

@@ -11,8 +11,8 @@ module _ (g : Over) (c : After-alphabet_len g) where
   -- what the words of the state begin with
   state : Begins c.args.self.now c.requires.state.0 c.args.sid c.state.result.words.now c.alphabet_len.result
   state =
-      let r = c.requires.state in
-      begins c.args.self.now r.0 c.args.sid r.1.0 r.1.1 c.state.result.words.now c.alphabet_len.result c.state.ensures
+      let (anchored, (u, stands)) = c.requires.state in
+      begins c.args.self.now anchored c.args.sid u stands c.state.result.words.now c.alphabet_len.result c.state.ensures
       (c.alphabet_len.ensures.value ∙ ap (λ (p : ContiguousView). alphabet_len p.classes) c.self.view_is)
 
   -- there is a match at the index

@@ -16,10 +16,10 @@ loop-next-init c = search (rules, onward-start)
 
 pub at-state-requires : goal.at-state-requires
 at-state-requires c =
-    let r = c.requires.state in
-    let o = c.loop-next.invariant r.0 r.1 r.2 r.3 r.4 r.5 r.6 in
-    let within = stands-within r.0 c.args.anchored c.loop-next.at o.node o.stands in
-    let same = ap (λ (ws : List ℕ). length ws) r.3 in
+    let (p, b, u, same, byte, class, h) = c.requires.state in
+    let o = c.loop-next.invariant p b u same byte class h in
+    let within = stands-within p c.args.anchored c.loop-next.at o.node o.stands in
+    let long = ap (λ (ws : List ℕ). length ws) same in
     omega arith
 
 -- the class is one of those that there are
@@ -29,16 +29,16 @@ below p anchored s b class u h byte is = let small = class_at-below p.classes h.
 
 pub look-requires : goal.look-requires
 look-requires c =
-    let r = c.requires.state in
-    let o = c.loop-next.invariant r.0 r.1 r.2 r.3 r.4 r.5 r.6 in (
-      node_format r.0.built r.0.dense_depth o.node,
-      alphabet_len r.0.classes,
-      packed_at r.0 o.stands.at c.args.anchored o.node,
-      begins-at r.0 c.args.anchored c.loop-next.at o.node o.stands c.args.words.now c.at-state.result.words.now r.3
+    let (p, b, u, same, byte, class, h) = c.requires.state in
+    let o = c.loop-next.invariant p b u same byte class h in (
+      node_format p.built p.dense_depth o.node,
+      alphabet_len p.classes,
+      packed_at p o.stands.at c.args.anchored o.node,
+      begins-at p c.args.anchored c.loop-next.at o.node o.stands c.args.words.now c.at-state.result.words.now same
           c.at-state.ensures,
       (
-        are-named r.0 o.stands.at o.stands.is_contiguous c.args.anchored o.node,
-        below r.0 c.args.anchored c.args.from r.1 c.args.class r.2 r.6 r.4 r.5,
+        are-named p o.stands.at o.stands.is_contiguous c.args.anchored o.node,
+        below p c.args.anchored c.args.from b c.args.class u h byte class,
       ),
     )
 
@@ -84,9 +84,9 @@ module _ (c : After-look) (p : ContiguousView) (b : ℕ) (u : Node) (same : p.wo
 
 pub must-requires : goal.must-requires
 must-requires c =
-    let r = c.requires.state in
-    let e = at-target (goal.at.must-requires c).After-look r.0 r.1 r.2 r.3 r.4 r.5 r.6 c.in-Some.next c.in-Some.is in
-    record { small = stands-small r.0 c.args.anchored c.in-Some.next _ e.steps }
+    let (p, b, u, same, byte, class, h) = c.requires.state in
+    let e = at-target (goal.at.must-requires c).After-look p b u same byte class h c.in-Some.next c.in-Some.is in
+    record { small = stands-small p c.args.anchored c.in-Some.next _ e.steps }
 
 pub returns-in-Some-clause-steps : goal.returns-in-Some-clause-steps
 returns-in-Some-clause-steps c = λ p b u same byte class h.
@@ -117,19 +117,20 @@ returns-then-is_anchored-clause-looks c = λ p b u same byte class h.
 
 pub fail-at-requires : goal.fail-at-requires
 fail-at-requires c =
-    let r = c.requires.state in
+    let (p, b, u, same, byte, class, h) = c.requires.state in
     let d = (goal.at.fail-at-requires c).After-look in
-    let o = here d r.0 r.1 r.2 r.3 r.4 r.5 r.6 in (
-      node_format r.0.built r.0.dense_depth o.node,
-      alphabet_len r.0.classes,
-      packed_at r.0 o.stands.at c.args.anchored o.node,
-      begins d r.0 r.1 r.2 r.3 r.4 r.5 r.6,
+    let o = here d p b u same byte class h in (
+      node_format p.built p.dense_depth o.node,
+      alphabet_len p.classes,
+      packed_at p o.stands.at c.args.anchored o.node,
+      begins d p b u same byte class h,
+      tt,
     )
 
 pub loop-next-smaller : goal.loop-next-smaller
 loop-next-smaller c =
-    let r = c.requires.state in
-    let o = c.loop-next.invariant r.0 r.1 r.2 r.3 r.4 r.5 r.6 in
+    let (p, b, u, same, byte, class, h) = c.requires.state in
+    let o = c.loop-next.invariant p b u same byte class h in
     let counted = ap (λ (k : Counts). k.looks) o.counted in
     let short = o.short in
     let more = ap (λ (k : Counts). k.looks) c.look.ensures.counted in

@@ -1,54 +1,64 @@
-use Rattle.std.proofs.Common.{◌≡◌, ℕ, ◌+◌, List, [], ◌∷◌, ◌++◌, length, length-append, slice_set, inl, inr, ap, sym, ◌∙◌, subst, arith, Some}
+use Rattle.std.proofs.Common.{◌≡◌, ℕ, ◌+◌, true, false, is_some, MatchOption, Option, None, Some, List, [], ◌∷◌, ◌++◌, length, length-append, slice_set, refl, ap, sym, ◌∙◌, subst, arith}
 use Rattle.std.proofs.lemmas.Option.{slice_get_within}
 use Rattle.ac_automaton.specs.declared.automaton.commits.Commit.{Commit}
 use Rattle.ac_automaton.specs.declared.nfa.noncontiguous.commits.Making.{Making}
-use Rattle.ac_automaton.specs.Committing.{HasAdded, IsChild, LeadsToChild, Made, made_of, MakesAt}
-use Rattle.ac_automaton.specs.Prelude.{TrieView}
+use Rattle.ac_automaton.specs.declared.nfa.noncontiguous.state.Transition.{Transition}
+use Rattle.ac_automaton.specs.Committing.{HasAdded, IsChild, HasString, LeadsToChild, Made, made_of}
+use Rattle.ac_automaton.specs.Prelude.{IsNumbered}
+use Rattle.ac_automaton.proofs.CommitSteps.{state-in}
 use Rattle.ac_automaton.proofs.CommitAdding.{added-commit, added-none}
 use Rattle.ac_automaton.proofs.nfa.noncontiguous.commits.Making.add.Given.{Over}
 use Rattle.ac_automaton.proofs.nfa.noncontiguous.commits.Making.add.Goals as goal
-use Rattle.ac_automaton.proofs.nfa.noncontiguous.commits.Making.add.Goals.{Else-needs_none}
+use Rattle.ac_automaton.proofs.nfa.noncontiguous.commits.Making.add.Goals.{Else-is_some}
 
-pub returns-then-needs_none-clause-adds : goal.returns-then-needs_none-clause-adds
-returns-then-needs_none-clause-adds g c = λ view s u makes child.
-    added-none makes.whole makes.made child (elim c.if-needs_none.ensures [
-      | inl some ↦ inl some
-      | inr match ↦ inr (λ v named. match view s (Some v) makes named)
-    ])
+-- a child with its string
+abbrev child-at : {Z : Type 0} {making : Making Z} {parent : Commit} {next : Transition} (child : IsChild making parent next)
+    (u : List ℕ) → IsNumbered child.at.view.nodes next.target u → HasString making next.target
+child-at child u named = state-in child.at refl child.at.made u named
+
+pub held-requires : goal.held-requires
+held-requires g c = record { at = child-at c.requires.child _ c.requires.child.longer_named }
+
+-- what holds of an option where it is some, and where it is none
+some : (P : Type 0) (Q : Commit → Type 0) (r : Option Commit) → is_some r ≡ true → MatchOption r P Q → (commit : Commit) × Q commit
+some P Q None is held = absurd (cc)
+some P Q (Some commit) is held = (commit, held)
+
+none : (P : Type 0) (Q : Commit → Type 0) (r : Option Commit) → is_some r ≡ false → MatchOption r P Q → P
+none P Q None is held = held
+none P Q (Some commit) is held = absurd (cc)
+
+pub returns-then-is_some-clause-adds : goal.returns-then-is_some-clause-adds
+returns-then-is_some-clause-adds g c = λ child.
+    added-none child (λ u named.
+    (some _ _ c.held.result (sym c.is_some.ensures ∙ c.if-is_some.true) (c.held.ensures (child-at child u named))).1.none)
 
 -- a child without a match
-leads : (g : Over) (c : Else-needs_none g) (view : TrieView) (s : ℕ) (u : List ℕ) → MakesAt c.args.self.now s view
-    → IsChild view c.args.self.now.chains s u c.args.parent.now c.args.next
-    → LeadsToChild view c.args.self.now.chains s u c.args.parent.now c.args.next
-leads g c view s u makes child = record {
-  state = child.state;
-  named = child.named;
-  commit = child.commit;
-  child = child.child;
-  none = c.if-needs_none.ensures.1 view s _ makes child.child;
+abbrev leads : (g : Over) (c : Else-is_some g) → IsChild c.args.self.now c.args.parent.now c.args.next
+    → LeadsToChild c.args.self.now c.args.parent.now c.args.next
+leads g c child = record {
+  child = child;
+  matchless = (none _ _ c.held.result (sym c.is_some.ensures ∙ c.if-is_some.false)
+      (c.held.ensures (child-at child _ child.longer_named))).matchless;
 }
 
 pub lead_on-requires : goal.lead_on-requires
-lead_on-requires g c =
-    let r = c.requires.child in
-    record { leads = (r.0, r.1, r.2, r.3, leads g (goal.at.lead_on-requires g c).Else-needs_none r.0 r.1 r.2 r.3 r.4) }
+lead_on-requires g c = record { leads = leads g (goal.at.lead_on-requires g c).Else-is_some c.requires.child }
 
 pub index_mut-requires : goal.index_mut-requires
 index_mut-requires g c =
-    let r = c.requires.child in
-    let l = leads g (goal.at.index_mut-requires g c).Else-needs_none r.0 r.1 r.2 r.3 r.4 in
-    let led = c.in_ok-commit.ensures.leads r.0 r.1 r.2 r.3 l in
-    let within = slice_get_within r.0.nodes c.args.next.target _ r.4.child in
+    let child = c.requires.child in
+    let led = c.in_ok-commit.ensures.leads (leads g (goal.at.index_mut-requires g c).Else-is_some child) in
+    let within = slice_get_within child.at.view.nodes c.args.next.target _ child.longer_named in
     let same = ap (λ (making : Making _). length making.index.items) c.in_ok-commit.ensures.same in
     let at = c.as_usize-at.ensures.value ∙ led.state in
-    let long = r.3.made.long in
+    let long = child.at.made.long in
     let len = c.lead_on.new.self.index.ok.0 in
     omega (arith, same, at)
 
 pub returns-clause-adds : goal.returns-clause-adds
-returns-clause-adds g c = λ view s u makes child.
-    let l = leads g (goal.at.returns-clause-adds g c).Else-needs_none view s u makes child in
-    let led = c.in_ok-commit.ensures.leads view s u makes l in
+returns-clause-adds g c = λ child.
+    let led = c.in_ok-commit.ensures.leads (leads g (goal.at.returns-clause-adds g c).Else-is_some child) in
     let old = made_of c.args.self.now in
     let same = c.in_ok-commit.ensures.same in
     let at = c.as_usize-at.ensures.value ∙ led.state in
@@ -56,16 +66,15 @@ returns-clause-adds g c = λ view s u makes child.
     ∙ ap (λ (making : Making _). making.commits.items ++ c.in_ok-commit.commit ∷ []) same in
     let place : c.len.result ≡ length old.commits + 1 =
     c.len.ensures ∙ c.push.new.self.ok.0 ∙ ap length commits ∙ length-append old.commits (c.in_ok-commit.commit ∷ []) in
-    let index : slice_set c.lead_on.new.self.index.items c.as_usize-at.result c.len.result
-    ≡ slice_set old.index c.args.next.target (length old.commits + 1) =
-    ap (λ (making : Making _). slice_set making.index.items c.as_usize-at.result c.len.result) same
-    ∙ ap (λ (k : ℕ). slice_set old.index k c.len.result) at
-    ∙ ap (slice_set old.index c.args.next.target) place in
-    subst (λ (new : Made). HasAdded view old new s c.args.next)
-    (sym (ap (λ (index : List ℕ). record { index = index; commits = c.push.new.self.items; chains = c.lead_on.new.self.chains }) index
-    ∙ ap (λ (commits : List Commit). record {
+    let index = ap (λ (making : Making _). making.index.items) same in
+    let new : record {
       index = slice_set old.index c.args.next.target (length old.commits + 1);
-      commits = commits;
+      commits = old.commits ++ c.in_ok-commit.commit ∷ [];
       chains = c.lead_on.new.self.chains;
-    }) commits))
-    (added-commit makes.whole makes.made child (record { chains = led.chains; state = led.state; has = led.has }))
+    } ≡ record {
+      index = slice_set c.lead_on.new.self.index.items c.as_usize-at.result c.len.result;
+      commits = c.push.new.self.items;
+      chains = c.lead_on.new.self.chains;
+    } = cc in
+    subst (λ (now : Made). HasAdded child.at.view old now c.args.next) new
+    (added-commit child (record { chains = led.chains; state = led.state; has = led.has }))

@@ -1,12 +1,11 @@
 use Rattle.std.proofs.Common.{◌≡◌}
-use Rattle.ac_automaton.specs.Committing.{KeepsTrie, MakesAt, MeansWhole}
+use Rattle.ac_automaton.specs.Committing.{IsMade, IsViewOf, lists_of, made_of}
 use Rattle.ac_automaton.specs.Tries.{TrieView}
 use Rattle.ac_automaton.proofs.nfa.noncontiguous.commits.Making.add_all.Given as goal
 
 -- the states below the number have given commits to their children
 abbrev pub invariant-loop-number : goal.invariant-loop-number
 invariant-loop-number g l = record {
-  trie : KeepsTrie l.fn.self l.self;
-  makes : (view : TrieView) → view.transitions ≡ l.fn.self.transitions.now → view.order ≡ l.fn.self.order.now
-      → MeansWhole view l.fn.self.states.now → MakesAt l.self l.number view;
+  same : lists_of l.self ≡ lists_of l.fn.self;
+  made : (view : TrieView) → IsViewOf (lists_of l.fn.self) view → IsMade view (made_of l.self) l.number;
 }

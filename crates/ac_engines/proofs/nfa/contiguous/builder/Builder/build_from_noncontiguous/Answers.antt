@@ -13,41 +13,30 @@ use Rattle.ac_engines.proofs.EngineCommits.{contiguous-commits, StandsPacked}
 use Rattle.ac_engines.proofs.PackedBuilding.{memory-answers, packed-same, read-number, starts-placed}
 use Rattle.ac_engines.proofs.nfa.contiguous.builder.Builder.build_from_noncontiguous.Goals as goal
 
--- the plan has nodes, and the states with matches end at this place
-pub new-plan-requires-clause-apart : goal.new-plan-requires-clause-apart
-new-plan-requires-clause-apart g c = c.classes_for-classes.ensures.apart
-
-pub numbers-requires-clause-may : goal.numbers-requires-clause-may
-numbers-requires-clause-may g c = c.new-plan.ensures.may
-
-pub numbers-requires-clause-front : goal.numbers-requires-clause-front
-numbers-requires-clause-front g c = c.front_end-match_end.ensures
-
-pub all_words-requires : goal.all_words-requires
-all_words-requires g c = record { may = c.new-plan.ensures.may }
-
 -- each state has a place
 pub pack-requires-clause-ready : goal.pack-requires-clause-ready
 pack-requires-clause-ready g c =
-    let nodes = c.new-plan.ensures.may in (
-      nodes.0,
-      record { may = nodes.1; places = rw c.deref.ensures.value (c.in-Ok.ensures.places nodes.0 nodes.1) },
-    )
+    let (nodes, may) = c.new-plan.ensures.may in
+    (nodes, record { may = may; places = rw c.deref.ensures.value (c.in-Ok.ensures.places nodes may) })
 
 pub index-requires : goal.index-requires
-index-requires g c = search (rules, starts-placed c.new-plan.result (c.new-plan.ensures.may).0 c.in-Ok.numbers.list.items (c.new-plan.ensures.may).1 (c.in-Ok.ensures.places (c.new-plan.ensures.may).0 (c.new-plan.ensures.may).1))
+index-requires g c =
+    let (nodes, may) = c.new-plan.ensures.may in
+    search (rules, starts-placed c.new-plan.result nodes c.in-Ok.numbers.list.items may (c.in-Ok.ensures.places nodes may))
 
 pub index-requires-2 : goal.index-requires-2
-index-requires-2 g c = search (rules, starts-placed c.new-plan.result (c.new-plan.ensures.may).0 c.in-Ok.numbers.list.items (c.new-plan.ensures.may).1 (c.in-Ok.ensures.places (c.new-plan.ensures.may).0 (c.new-plan.ensures.may).1))
+index-requires-2 g c =
+    let (nodes, may) = c.new-plan.ensures.may in
+    search (rules, starts-placed c.new-plan.result nodes c.in-Ok.numbers.list.items may (c.in-Ok.ensures.places nodes may))
 
 -- the words stand for the nodes
 pub invariant_of-result : goal.invariant_of-result
 invariant_of-result g c =
-    let nodes = c.new-plan.ensures.may in
+    let (nodes, packable) = c.new-plan.ensures.may in
     let plan = c.new-plan.ensures.value in
     let numbers = c.deref.ensures.value in
-    let placed = starts-placed c.new-plan.result nodes.0 c.in-Ok.numbers.list.items nodes.1
-    (c.in-Ok.ensures.places nodes.0 nodes.1) in
+    let placed = starts-placed c.new-plan.result nodes c.in-Ok.numbers.list.items packable
+    (c.in-Ok.ensures.places nodes packable) in
     let common : c.in_ok-clone-2.field-0 ≡ common_of c.args.nfa.now.built c.args.nfa.now.wants_prefilter =
     c.in_ok-clone-2.ensures.cases ∙ c.common.ensures in
     let view = contiguous_of c.in_ok-clone-2.field-0 c.self.inside.dense_depth c.classes_for-classes.result
@@ -74,14 +63,14 @@ invariant_of-result g c =
           (sym (same ns may)) (c.in_ok-words.ensures.packed ns ready);
     } in
     record {
-      is_contiguous = (places_of c.new-plan.result nodes.0 c.deref.result.now, (stands nodes.0 nodes.1).is);
-      committed = contiguous-commits packer view (ap (λ (p : ContiguousView). p.built) (same nodes.0 nodes.1)) nodes.0 nodes.1.are_nodes
+      is_contiguous = (places_of c.new-plan.result nodes c.deref.result.now, (stands nodes packable).is);
+      committed = contiguous-commits packer view (ap (λ (p : ContiguousView). p.built) (same nodes packable)) nodes packable.are_nodes
           (λ ns are. stands ns (record {
             are_nodes = are;
-            classes = nodes.1.classes;
-            apart = nodes.1.apart;
-            few = nodes.1.few;
-            short = nodes.1.short;
+            classes = packable.classes;
+            apart = packable.apart;
+            few = packable.few;
+            short = packable.short;
           })) _ _
           (subst (λ (ns : List ℕ). AreRenumbered ns c.commits.result.now c.in_ok-commits.commits)
           (c.deref-2.ensures.value ∙ sym numbers) c.in_ok-commits.ensures)

@@ -3,18 +3,7 @@ use Rattle.ac_automaton.specs.Prelude.{AreNodes, HasOwn, transition_bytes_of, Tr
 use Rattle.ac_automaton.proofs.Places.{take-next}
 use Rattle.ac_engines.specs.Prelude.{Packer, PackPlan, packed_state}
 use Rattle.ac_engines.proofs.PackedNodes.{edges-count}
-use Rattle.ac_engines.proofs.PlanStates.{words-numbered}
 use Rattle.ac_engines.proofs.nfa.contiguous.pack.Packer.list_edges.Goals as goal
-
--- the state is one of the trie
-pub own_len-index-end-requires : goal.own_len-index-end-requires
-own_len-index-end-requires g c = record {
-  numbered = words-numbered _ _ _ (c.plan.view_is ∙ ap (λ (f : Packer). f.plan) c.self.view_is) c.requires.state.words;
-}
-
--- it has a place, and each place below the count of its transitions has one
-pub edge-requires-clause-state : goal.edge-requires-clause-state
-edge-requires-clause-state g c = c.requires.state
 
 pub edge-requires-clause-within : goal.edge-requires-clause-within
 edge-requires-clause-within g c =

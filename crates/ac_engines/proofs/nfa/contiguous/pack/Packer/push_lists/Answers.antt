@@ -1,10 +1,11 @@
-use Rattle.std.proofs.Common.{◌≡◌, ◌++◌, sym, subst, ◌∙◌, [], ap, List, map, Some, IfOk, length, slice_get, ℕ}
+use Rattle.std.proofs.Common.{◌≡◌, ◌++◌, sym, subst, ◌∙◌, [], ap, List, map, Some, IfOk, slice_get}
 use Rattle.std.specs.List.Sorted.{IsStrictlyIncreasing}
 use Rattle.ac_automaton.specs.Util.{alphabet_len, No, Node}
 use Rattle.ac_automaton.specs.Prelude.{AreNodes, matches_of, Trie}
-use Rattle.ac_engines.specs.Prelude.{anchored_of, AreReady, Edge, HasWords, MayPack, node_format, packed_of, Packer, PackPlan, places_of, packed_state}
+use Rattle.ac_engines.specs.Prelude.{anchored_of, AreReady, Edge, format_for, MayPack, packed_of, Packer, PackPlan, places_of, packed_state}
 use Rattle.ac_engines.specs.Listed.{HasNode}
-use Rattle.ac_engines.proofs.PackedNodes.{matches-format_words, format_words-by_parts, state-spells}
+use Rattle.ac_engines.proofs.PackedForms.{format_words-by_parts, state-spells}
+use Rattle.ac_engines.proofs.PackedNodes.{matches-packed_at}
 use Rattle.ac_engines.proofs.nfa.contiguous.pack.Packer.push_lists.Given.{Over}
 use Rattle.ac_engines.proofs.nfa.contiguous.pack.Packer.push_lists.Goals.{After-alphabet_len}
 use Rattle.ac_engines.proofs.nfa.contiguous.pack.Packer.push_lists.Goals as goal
@@ -22,22 +23,18 @@ module _ (g : Over) (c : After-alphabet_len g) (nodes : List Node) (u : Node) (r
       subst (λ (t : Trie). c.deref-2.result.now ≡ matches_of t.built No u) trie
       (c.deref-2.ensures.value
       ∙ c.in_ok-list_matches.ensures nodes u (subst (λ (t : Trie). AreNodes t nodes) (sym trie) ready.may.are_nodes) named)
-      ∙ sym (matches-format_words (packed_of f.plan nodes f.numbers []) (places_of f.plan nodes f.numbers) (anchored_of c.args.sid) u)
+      ∙ sym (matches-packed_at (packed_of f.plan nodes f.numbers []) (places_of f.plan nodes f.numbers) (anchored_of c.args.sid) u)
 
-  form : c.format.result ≡ node_format c.args.self.now.plan.trie.built c.args.self.now.plan.dense_depth u
+  form : c.format.result ≡ format_for c.args.self.now.plan u
   form =
       let plan = ap (λ (f : Packer). f.plan) c.self.view_is in
-      subst (λ (p : PackPlan). c.format.result ≡ node_format p.trie.built p.dense_depth u) plan
+      subst (λ (p : PackPlan). c.format.result ≡ format_for p u) plan
       (c.format.ensures nodes u (subst (λ (p : PackPlan). MayPack p nodes) (sym plan) ready.may) named)
 
   classes : c.alphabet_len.result ≡ alphabet_len c.args.self.now.plan.classes
   classes =
       c.alphabet_len.ensures.value ∙ ap (λ (p : PackPlan). alphabet_len p.classes) c.plan.view_is
       ∙ ap (λ (f : Packer). alphabet_len f.plan.classes) c.self.view_is
-
--- the state has words and a place
-pub list_edges-requires : goal.list_edges-requires
-list_edges-requires g c = record { state = c.requires.state }
 
 pub list_matches-requires : goal.list_matches-requires
 list_matches-requires g c =
@@ -47,28 +44,6 @@ list_matches-requires g c =
       state = subst (λ (t : Trie). HasNode t c.args.sid) (sym trie)
           (record { nodes = at.nodes; are_nodes = at.may.are_nodes; node = at.node; named = at.named });
     }
-
-pub failure-requires : goal.failure-requires
-failure-requires g c = record { state = c.requires.state }
-
-pub default_target-requires : goal.default_target-requires
-default_target-requires g c = record { state = c.requires.state }
-
-pub format-requires-clause-state : goal.format-requires-clause-state
-format-requires-clause-state g c =
-    subst (λ (p : PackPlan). HasWords p c.args.sid) (sym (ap (λ (f : Packer). f.plan) c.self.view_is)) c.requires.state.words
-
--- the list has its matches
-pub format-requires-clause-matches : goal.format-requires-clause-matches
-format-requires-clause-matches g c = λ nodes u may named.
-    let trie = ap (λ (p : PackPlan). p.trie) c.plan.view_is in
-    c.len.ensures ∙ sym c.deref-2.ensures.len
-    ∙ ap (λ (xs : List ℕ). length xs) (subst (λ (t : Trie). c.deref-2.result.now ≡ matches_of t.built No u) trie
-    (c.deref-2.ensures.value
-    ∙ c.in_ok-list_matches.ensures nodes u (subst (λ (t : Trie). AreNodes t nodes) (sym trie) may.are_nodes) named))
-
-pub push_state-requires-clause-few : goal.push_state-requires-clause-few
-push_state-requires-clause-few g c = c.alphabet_len.ensures.few
 
 -- so what it spells can be pushed
 pub push_state-requires-clause-fits : goal.push_state-requires-clause-fits

@@ -1,9 +1,9 @@
 use Rattle.std.proofs.Common.{◌≡◌, ◌++◌, ap, sym, subst, ◌∙◌, arith, length, Some, slice_get}
 use Rattle.std.specs.Cmp.{booleans_Decides}
 use Rattle.std.proofs.lemmas.Bool.{false≢true}
-use Rattle.ac_engines.specs.Prelude.{has_matches, HasWords, MayPack, Packer, PackPlan, state_words}
+use Rattle.ac_engines.specs.Prelude.{has_matches, HasPushedUpTo, HasWords, MayPack, Packer, PackPlan, state_words}
 use Rattle.ac_engines.proofs.PlanSums.{has-words, named-below, plan-states}
-use Rattle.ac_engines.proofs.Pushing.{HasPushedUpTo, passed-over, pushed-all, pushed-next, pushed-none}
+use Rattle.ac_engines.proofs.Pushing.{passed-over, pushed-next, pushed-none}
 use Rattle.ac_engines.proofs.nfa.contiguous.pack.Packer.push_where.Goals.{then-is_match-front+in_ok-push, else-is_match-front}
 use Rattle.ac_engines.proofs.nfa.contiguous.pack.Packer.push_where.Goals as goal
 
@@ -75,6 +75,5 @@ returns g c = λ nodes ready.
     c.states_len-state-end.ensures.value in
     let all : c.loop-state.state ≡ length nodes =
     omega (arith, states, c.loop-state-test.false, c.loop-state.auto.state-end, ready.may.are_nodes.numbered.count) in
-    pushed-all f nodes c.args.front c.args.buffers.now.words.items c.loop-state.buffers.words.items
-    (subst (λ n. HasPushedUpTo f nodes c.args.front n c.args.buffers.now.words.items c.loop-state.buffers.words.items) all
-    (c.loop-state.invariant nodes ready))
+    subst (λ n. HasPushedUpTo f nodes c.args.front n c.args.buffers.now.words.items c.loop-state.buffers.words.items) all
+    (c.loop-state.invariant nodes ready)

@@ -1,23 +1,9 @@
-use Rattle.std.proofs.Common.{◌≡◌, ◌<◌, ◌≤◌, length, refl, ap, sym, subst, ◌∙◌, arith}
+use Rattle.std.proofs.Common.{◌≡◌, ◌≤◌, length, refl, ap, sym, subst, ◌∙◌, arith}
 use Rattle.ac_util.specs.Node.{depth}
 use Rattle.ac_automaton.specs.Prelude.{AreNodes, transition_bytes_of, Trie}
 use Rattle.ac_engines.specs.Prelude.{format_of, node_format, PackPlan}
-use Rattle.ac_engines.proofs.InnerStates.{inner-long, start-empty}
-use Rattle.ac_engines.proofs.PlanStates.{words-numbered}
+use Rattle.ac_engines.proofs.InnerStates.{inner-long}
 use Rattle.ac_engines.proofs.nfa.contiguous.plan.Plan.format.Goals as goal
-
--- the starts stand for the empty string
-pub returns-then-as_usize-lt-FIRST_INNER : goal.returns-then-as_usize-lt-FIRST_INNER
-returns-then-as_usize-lt-FIRST_INNER g c = λ nodes u may named.
-    rw (start-empty c.args.self.now.trie nodes c.args.sid u may.are_nodes c.requires.state.reached
-    (subst (λ n. n < 4) c.as_usize.ensures.value c.if-as_usize-lt-FIRST_INNER.true) named) refl
-
--- the state is one of the trie
-pub depth-requires : goal.depth-requires
-depth-requires g c = record { numbered = words-numbered _ _ _ c.self.view_is c.requires.state }
-
-pub own_len-requires : goal.own_len-requires
-own_len-requires g c = record { numbered = words-numbered _ _ _ c.self.view_is c.requires.state }
 
 -- a state after the starts stands for a string that isn't empty
 pub returns : goal.returns

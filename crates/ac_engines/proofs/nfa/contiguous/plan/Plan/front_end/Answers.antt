@@ -1,7 +1,7 @@
 use Rattle.std.proofs.Common.{◌≡◌, ◌+◌, Bool, List, None, Some, slice_get, true, false, length, ap, refl, sym, ◌∙◌, arith, rules}
 use Rattle.ac_util.specs.Node.{Node}
-use Rattle.ac_engines.specs.Contiguous.Plans.{MayPack, size_of}
-use Rattle.ac_engines.proofs.PlanSums.{TakesSize, before, before-starts, has-words, named-below, plan-states, takes}
+use Rattle.ac_engines.specs.Contiguous.Plans.{before, MayPack, size_of}
+use Rattle.ac_engines.proofs.PlanSums.{TakesSize, before-starts, has-words, named-below, plan-states, takes}
 use Rattle.ac_engines.proofs.LaidUpTo.{IsNamed}
 use Rattle.ac_engines.proofs.nfa.contiguous.plan.Plan.front_end.Goals.{then-is_match, else-is_match}
 use Rattle.ac_engines.proofs.nfa.contiguous.plan.Plan.front_end.Goals as goal

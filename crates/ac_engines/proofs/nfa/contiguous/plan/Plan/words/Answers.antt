@@ -3,22 +3,8 @@ use Rattle.ac_util.specs.Classes.{alphabet_len}
 use Rattle.ac_automaton.specs.Prelude.{AreNodes, transition_bytes_of, Trie}
 use Rattle.ac_engines.specs.Prelude.{PackPlan, words_of_state}
 use Rattle.ac_engines.proofs.MatchCounts.{transition_bytes_of-few}
-use Rattle.ac_engines.proofs.PlanStates.{words-numbered}
 use Rattle.ac_engines.proofs.WordCounts.{node_words-most}
 use Rattle.ac_engines.proofs.nfa.contiguous.plan.Plan.words.Goals as goal
-
--- the state has words and so many matches, and is one of the trie
-pub match_len-matches-requires : goal.match_len-matches-requires
-match_len-matches-requires g c = record { state = c.requires.state }
-
-pub format-requires-clause-state : goal.format-requires-clause-state
-format-requires-clause-state g c = c.requires.state
-
-pub format-requires-clause-matches : goal.format-requires-clause-matches
-format-requires-clause-matches g c = c.match_len-matches.ensures.value
-
-pub own_len-requires : goal.own_len-requires
-own_len-requires g c = record { numbered = words-numbered _ _ _ c.self.view_is c.requires.state }
 
 -- there are no more own transitions than bytes
 pub state_words-requires-clause-transitions : goal.state_words-requires-clause-transitions

@@ -4,8 +4,8 @@ use Rattle.ac_engines.proofs.nfa.contiguous.state.State.match_len.Goals as goal
 
 pub bounds-match_words-0 : goal.bounds-match_words-0
 bounds-match_words-0 c =
-    let r = c.requires in
-    (reads r.1.matches r.2.rest c.match_words.result.now (c.match_words.ensures r.0 r.1 r.2 r.3) r.3 r.2.few_matches).some
+    let (format, s, begins, some) = c.requires in
+    (reads s.matches begins.rest c.match_words.result.now (c.match_words.ensures format s begins some) some begins.few_matches).some
 
 -- the first word is the only match
 pub returns-then-first-ge-ONE_MATCH : goal.returns-then-first-ge-ONE_MATCH

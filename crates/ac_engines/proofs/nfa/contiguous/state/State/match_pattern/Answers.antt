@@ -4,18 +4,18 @@ use Rattle.ac_engines.proofs.nfa.contiguous.state.State.match_pattern.Goals as g
 
 pub bounds-words-0 : goal.bounds-words-0
 bounds-words-0 c =
-    let r = c.requires in
-    let some = has-some r.1.matches c.args.index r.3 in
-    (reads r.1.matches r.2.rest c.match_words-words.result.now (c.match_words-words.ensures r.0 r.1 r.2 some) some
-    r.2.few_matches).some
+    let (format, s, begins, low) = c.requires in
+    let some = has-some s.matches c.args.index low in
+    (reads s.matches begins.rest c.match_words-words.result.now (c.match_words-words.ensures format s begins some) some
+    begins.few_matches).some
 
 -- several matches stand after their number
 pub bounds-words-index : goal.bounds-words-index
 bounds-words-index c =
-    let r = c.requires in
-    let some = has-some r.1.matches c.args.index r.3 in
-    (reads r.1.matches r.2.rest c.match_words-words.result.now (c.match_words-words.ensures r.0 r.1 r.2 some) some
-    r.2.few_matches).within c.if-words-ge-ONE_MATCH.false c.args.index r.3
+    let (format, s, begins, low) = c.requires in
+    let some = has-some s.matches c.args.index low in
+    (reads s.matches begins.rest c.match_words-words.result.now (c.match_words-words.ensures format s begins some) some
+    begins.few_matches).within c.if-words-ge-ONE_MATCH.false c.args.index low
 
 pub returns-else-words-ge-ONE_MATCH : goal.returns-else-words-ge-ONE_MATCH
 returns-else-words-ge-ONE_MATCH c = λ format s h low.

@@ -8,27 +8,29 @@ use Rattle.ac_engines.proofs.nfa.contiguous.state.State.sparse_target.Goals as g
 -- two words stand before the class words
 pub slice_bounds-split_at-count : goal.slice_bounds-split_at-count
 slice_bounds-split_at-count c =
-    let r = c.requires in (splits-at c.args.self.words.now r.0 r.1 c.args.transitions _ r.2 r.3 refl).long
+    let (classes, s, begins, counts) = c.requires in
+    (splits-at c.args.self.words.now classes s c.args.transitions _ begins counts refl).long
 
 pub slice_bounds-split_at-start : goal.slice_bounds-split_at-start
 slice_bounds-split_at-start c =
-    let r = c.requires in (splits-at c.args.self.words.now r.0 r.1 c.args.transitions _ r.2 r.3 refl).long
+    let (classes, s, begins, counts) = c.requires in
+    (splits-at c.args.self.words.now classes s c.args.transitions _ begins counts refl).long
 
 -- the class words are there
 pub split_at-requires : goal.split_at-requires
 split_at-requires c =
-    let r = c.requires in
-    (splits-at c.args.self.words.now r.0 r.1 c.args.transitions c.div_ceil.result r.2 r.3 c.div_ceil.ensures).enough
+    let (classes, s, begins, counts) = c.requires in
+    (splits-at c.args.self.words.now classes s c.args.transitions c.div_ceil.result begins counts c.div_ceil.ensures).enough
 
 -- a class that is found has a target
 pub bounds-targets-index : goal.bounds-targets-index
 bounds-targets-index c =
-    let r = c.requires in
-    let split = splits-at c.args.self.words.now r.0 r.1 c.args.transitions c.div_ceil.result r.2 r.3 c.div_ceil.ensures in
-    let within = place-within r.1.edges c.split_at.result.0.now (c.split_at.ensures.front ∙ split.front) c.args.class
+    let (classes, s, begins, counts) = c.requires in
+    let split = splits-at c.args.self.words.now classes s c.args.transitions c.div_ceil.result begins counts c.div_ceil.ensures in
+    let within = place-within s.edges c.split_at.result.0.now (c.split_at.ensures.front ∙ split.front) c.args.class
     c.loop-index.index c.place_in-place.result split.small c.loop-index-test.true c.place_in-place.ensures
     c.if-place-lt-CLASSES_A_WORD.true in
-    rw (c.split_at.ensures.back ∙ split.back, length-append (targets_of r.1.edges) split.more) (omega (arith, within))
+    rw (c.split_at.ensures.back ∙ split.back, length-append (targets_of s.edges) split.more) (omega (arith, within))
 
 -- it leads there
 pub returns-then-place-lt-CLASSES_A_WORD : goal.returns-then-place-lt-CLASSES_A_WORD

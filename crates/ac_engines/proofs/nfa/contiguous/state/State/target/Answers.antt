@@ -1,19 +1,23 @@
 use Rattle.std.proofs.Common.{◌∙◌, List, ℕ, Some, ap, sym, arith, slice_index_or}
 use Rattle.std.proofs.lemmas.Grind.{common_steps}
-use Rattle.ac_engines.specs.Contiguous.Words.{named, target_by}
+use Rattle.ac_engines.specs.Contiguous.Words.{target_by}
+use Rattle.ac_engines.specs.Contiguous.Reads.{named}
 use Rattle.ac_engines.proofs.PackedWords.{has-failure, named-none, named-some, leads-at, leads-one, is-dense, is-one, is-sparse}
 use Rattle.ac_engines.proofs.nfa.contiguous.state.State.target.Goals as goal
 
 pub bounds-self-0 : goal.bounds-self-0
-bounds-self-0 c = grind (arith, common_steps, has-failure c.args.self.words.now (c.requires).1 (c.requires).2 (c.requires).0 (c.requires).3)
+bounds-self-0 c =
+    let (format, classes, s, begins, leads) = c.requires in
+    grind (arith, common_steps, has-failure c.args.self.words.now classes s format begins)
 
 -- a dense state has a target for each class
 pub bounds-self-class : goal.bounds-self-class
 bounds-self-class c =
-    let r = c.requires in
+    let (format, classes, s, begins, leads) = c.requires in
     let low_byte = ap (λ (ns : List ℕ). slice_index_or ns 0 0) c.to_le_bytes.ensures in
-    let dense = is-dense c.args.self.words.now r.1 r.2 r.0 r.3 (sym low_byte ∙ c.if-form.true) in
-    (leads-at c.args.self.words.now r.1 r.2 c.args.class dense r.4.1).within
+    let dense = is-dense c.args.self.words.now classes s format begins (sym low_byte ∙ c.if-form.true) in
+    let (named, low) = leads in
+    (leads-at c.args.self.words.now classes s c.args.class dense low).within
 
 -- it leads there, unless nowhere
 pub returns-then-target-eq-FAIL : goal.returns-then-target-eq-FAIL
@@ -33,11 +37,11 @@ returns-else-target-eq-FAIL c = λ format classes s h named low.
 -- of a sparse one, the low byte is the number of its transitions
 pub sparse_target-requires : goal.sparse_target-requires
 sparse_target-requires c =
-    let r = c.requires in
+    let (format, classes, s, begins, leads) = c.requires in
     let low_byte = ap (λ (ns : List ℕ). slice_index_or ns 0 0) c.to_le_bytes.ensures in
-    let sparse = is-sparse c.args.self.words.now r.1 r.2 r.0 r.3 (λ dense. c.if-form.false (low_byte ∙ dense))
+    let sparse = is-sparse c.args.self.words.now classes s format begins (λ dense. c.if-form.false (low_byte ∙ dense))
     (λ one. c.if-form-2.true (low_byte ∙ one)) in
-    (r.1, r.2, sparse.begins, low_byte ∙ sparse.counts)
+    (classes, s, sparse.begins, low_byte ∙ sparse.counts)
 
 pub returns-then-form-2 : goal.returns-then-form-2
 returns-then-form-2 c = λ format classes s h are low.
@@ -50,10 +54,10 @@ returns-then-form-2 c = λ format classes s h are low.
 -- one transition has one target
 pub bounds-self-2 : goal.bounds-self-2
 bounds-self-2 c =
-    let r = c.requires in
+    let (format, classes, s, begins, leads) = c.requires in
     let low_byte = ap (λ (ns : List ℕ). slice_index_or ns 0 0) c.to_le_bytes.ensures in
-    let one = is-one c.args.self.words.now r.1 r.2 r.0 r.3 (sym low_byte ∙ c.if-form-2.false) in
-    (leads-one c.args.self.words.now r.1 r.2 c.args.class one).within
+    let one = is-one c.args.self.words.now classes s format begins (sym low_byte ∙ c.if-form-2.false) in
+    (leads-one c.args.self.words.now classes s c.args.class one).within
 
 pub returns-then-only-class : goal.returns-then-only-class
 returns-then-only-class c = λ format classes s h are low.

@@ -7,21 +7,25 @@ use Rattle.ac_engines.proofs.nfa.contiguous.state.State.transitions.Goals as goa
 
 -- a state has two words at least
 pub bounds-self-0 : goal.bounds-self-0
-bounds-self-0 c = grind (arith, common_steps, has-failure c.args.self.words.now c.args.classes (c.requires).1 (c.requires).0 (c.requires).2)
+bounds-self-0 c =
+    let (format, s, begins) = c.requires in
+    grind (arith, common_steps, has-failure c.args.self.words.now c.args.classes s format begins)
 
 pub slice_bounds-split_at-count : goal.slice_bounds-split_at-count
 slice_bounds-split_at-count c =
-    grind (arith, common_steps, has-failure c.args.self.words.now c.args.classes (c.requires).1 (c.requires).0 (c.requires).2)
+    let (format, s, begins) = c.requires in
+    grind (arith, common_steps, has-failure c.args.self.words.now c.args.classes s format begins)
 
 pub slice_bounds-split_at-start : goal.slice_bounds-split_at-start
 slice_bounds-split_at-start c =
-    grind (arith, common_steps, has-failure c.args.self.words.now c.args.classes (c.requires).1 (c.requires).0 (c.requires).2)
+    let (format, s, begins) = c.requires in
+    grind (arith, common_steps, has-failure c.args.self.words.now c.args.classes s format begins)
 
 -- the targets of a dense state are there
 pub slice_bounds-result-end : goal.slice_bounds-result-end
 slice_bounds-result-end c =
-    let r = c.requires in
-    (dense-lists c.args.self.words.now c.args.classes r.1 r.0 r.2 (low-byte _ _ 255 c.to_le_bytes.ensures c.if-form.true)).within
+    let (format, s, begins) = c.requires in
+    (dense-lists c.args.self.words.now c.args.classes s format begins (low-byte _ _ 255 c.to_le_bytes.ensures c.if-form.true)).within
 
 -- a dense state has a target for each class
 pub returns-then-form : goal.returns-then-form
@@ -32,9 +36,9 @@ returns-then-form c = λ format s h.
 
 pub slice_bounds-result-end-then-form-2 : goal.slice_bounds-result-end-then-form-2
 slice_bounds-result-end-then-form-2 c =
-    let r = c.requires in
-    let one = is-one c.args.self.words.now c.args.classes r.1 r.0 r.2 (low-byte _ _ 254 c.to_le_bytes.ensures c.if-form-2.true) in
-    let long = (leads-one c.args.self.words.now c.args.classes r.1 0 one).within in
+    let (format, s, begins) = c.requires in
+    let one = is-one c.args.self.words.now c.args.classes s format begins (low-byte _ _ 254 c.to_le_bytes.ensures c.if-form-2.true) in
+    let long = (leads-one c.args.self.words.now c.args.classes s 0 one).within in
     omega (arith, long)
 
 -- one transition has one target, and its class stands beside the form
@@ -47,23 +51,23 @@ returns-then-form-2 c = λ format s h.
 -- a sparse state has its class words and its targets
 pub split_at-requires : goal.split_at-requires
 split_at-requires c =
-    let r = c.requires in
+    let (format, s, begins) = c.requires in
     let low_byte = ap (λ (ns : List ℕ). slice_index_or ns 0 0) c.to_le_bytes.ensures in
-    let sparse = is-sparse c.args.self.words.now c.args.classes r.1 r.0 r.2 (λ dense. c.if-form.false (low_byte ∙ dense))
+    let sparse = is-sparse c.args.self.words.now c.args.classes s format begins (λ dense. c.if-form.false (low_byte ∙ dense))
     (λ one. c.if-form-2.false (low_byte ∙ one)) in
-    (splits-at c.args.self.words.now c.args.classes r.1 _ c.div_ceil.result sparse.begins (low_byte ∙ sparse.counts)
+    (splits-at c.args.self.words.now c.args.classes s _ c.div_ceil.result sparse.begins (low_byte ∙ sparse.counts)
     c.div_ceil.ensures).enough
 
 pub slice_bounds-result-end-2 : goal.slice_bounds-result-end-2
 slice_bounds-result-end-2 c =
-    let r = c.requires in
+    let (format, s, begins) = c.requires in
     let low_byte = ap (λ (ns : List ℕ). slice_index_or ns 0 0) c.to_le_bytes.ensures in
-    let sparse = is-sparse c.args.self.words.now c.args.classes r.1 r.0 r.2 (λ dense. c.if-form.false (low_byte ∙ dense))
+    let sparse = is-sparse c.args.self.words.now c.args.classes s format begins (λ dense. c.if-form.false (low_byte ∙ dense))
     (λ one. c.if-form-2.false (low_byte ∙ one)) in
     let counts = low_byte ∙ sparse.counts in
-    let are = sparse-targets c.args.self.words.now c.args.classes r.1 _ _ c.div_ceil.result sparse.begins counts
+    let are = sparse-targets c.args.self.words.now c.args.classes s _ _ c.div_ceil.result sparse.begins counts
     c.div_ceil.ensures (ap (λ (ns : List ℕ). take (slice_index_or c.to_le_bytes.result 0 0) ns) c.split_at.ensures.back) in
-    counts ∙ sym (ap (λ (ns : List ℕ). length ns) are ∙ length-map r.1.edges (λ e. e.target))
+    counts ∙ sym (ap (λ (ns : List ℕ). length ns) are ∙ length-map s.edges (λ e. e.target))
 
 pub returns : goal.returns
 returns c = λ format s h.

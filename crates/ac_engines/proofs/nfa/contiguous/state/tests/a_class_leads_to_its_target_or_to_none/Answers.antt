@@ -13,4 +13,4 @@ pub look-requires-2 : goal.look-requires-2
 look-requires-2 g c = (Sparse, 131, five_edges, begins _ c.at-state.ensures, (five-named, omega arith))
 
 pub fail-requires : goal.fail-requires
-fail-requires g c = (Sparse, 131, five_edges, begins _ c.at-state.ensures)
+fail-requires g c = (Sparse, 131, five_edges, begins _ c.at-state.ensures, tt)
