@@ -145,8 +145,8 @@ module _ {E D : Type 0} (passing : Passing E D)
     pub clear : passing.held t.closure ≡ []
     pub steps : Steps (take place bytes) 0 (take given (stream_result built bytes)) s None t
 
-  -- before the last read the steps were made as far as the stream was settled then, and nothing was held back; the others have
-  -- ended with an error
+  -- first the steps were made by which the stream is settled without the last bytes, of which there are no more than a buffer has, and
+  -- nothing was held back; the others have ended with an error
   pub record HasExchangedFirst (built : Built) (bytes : List ℕ) (given place : ℕ) (s : Replacing E D) (e : StreamError)
       (t : Replacing E D) : Type 0 where
     pub before : List ℕ
@@ -158,7 +158,7 @@ module _ {E D : Type 0} (passing : Passing E D)
     pub made : Steps (take from before) 0 (take count (stream_result built before)) s None between
     pub others : Steps (take place bytes) from (drop count (take given (stream_result built bytes))) between (Some e) t
 
-  -- a write, or an exchange, has failed: no step was made after that, and nothing was read
+  -- a write, or an exchange, has failed: no step was made after that
   pub record FailsAtExchange (ends : Bool) (built : Built) (reader new_reader : Reading) (s : Replacing E D) (e : StreamError)
       (t : Replacing E D) (bytes : List ℕ) : Type 0 where
     pub given : ℕ

@@ -127,8 +127,8 @@ IsSettled ends built old new bytes given place =
     (ReadsSome old new bytes × IsSettledBy built.kind built bytes given place)
     ⊎ (ReadsAll ends old new bytes × (given ≡ length (stream_result built bytes)) × (place ≡ length bytes))
 
--- the last of these bytes, no more than a buffer has, came by one read; by those before it the stream was settled as far as an
--- offset by so many of their matches
+-- by these bytes without the last ones, which are no more than a buffer has, the stream is settled as far as an offset, by so many of
+-- their matches
 pub record IsSettledBefore (built : Built) (bytes before : List ℕ) (given place : ℕ) : Type 0 where
   pub last : List ℕ
   pub whole : bytes ≡ before ++ last
@@ -177,8 +177,8 @@ module _ {F D : Type 0} (told : D → Writing)
       (given place : ℕ) × IsSettledBy built.kind built bytes given place × IsNear built bytes place
       × StreamStepsLead bytes (take given (stream_result built bytes)) place None new
 
-  -- the steps over these bytes as far as an offset have ended with an error: those for what was settled before the last read were
-  -- made before it, and the others after it
+  -- the steps over these bytes as far as an offset have ended with an error: first all were made by which the stream is settled without
+  -- the last bytes, of which there are no more than a buffer has, and then the others
   pub record HasMadeFirst (bytes : List ℕ) (given place : ℕ) (new : D) (e : StreamError) : Type 0 where
     pub before : List ℕ
     pub count : ℕ
@@ -191,7 +191,8 @@ module _ {F D : Type 0} (told : D → Writing)
     pub others : StreamSteps (take place bytes) from (drop count (take given (stream_result built bytes))) between
         (Some e) (record { closure = left; destination = new })
 
-  -- a write has failed, or took nothing, or the closure has failed: no step was made after that, and nothing was read
+  -- a write has failed, or took nothing, or the closure has failed: no step was made after that, and no more had come than a buffer
+  -- has since all that was settled was written
   pub record FailsAtStep (ends : Bool) (reader new_reader : Reading) (bytes : List ℕ) (new : D) (e : StreamError) : Type 0 where
     pub given : ℕ
     pub place : ℕ
@@ -242,7 +243,8 @@ module _ (built : Built) (texts : List (List ℕ)) (old new : Writing) where
       (given place : ℕ) × IsSettledBy built.kind built bytes given place × IsNear built bytes place
       × WritesAll old new (exchanged_to built (text_of texts) bytes given place)
 
-  -- the replaced text was written before the last read as far as the stream was settled then
+  -- first the replaced text was written as far as the stream is settled without the last bytes, of which there are no more than a
+  -- buffer has
   pub record HasWrittenFirst (bytes : List ℕ) : Type 0 where
     pub before : List ℕ
     pub given : ℕ
@@ -253,8 +255,8 @@ module _ (built : Built) (texts : List (List ℕ)) (old new : Writing) where
     pub more : List ℕ
     pub later : Appends between.written new.written more
 
-  -- a write has failed, or took nothing: a beginning of the replaced text was written as far as the stream is settled, and nothing
-  -- was read after that
+  -- a write has failed, or took nothing: a beginning of the replaced text was written as far as the stream is settled, and no more had
+  -- come than a buffer has since all that was settled was written
   pub record FailsAtWrite (ends : Bool) (reader new_reader : Reading) (bytes : List ℕ) (e : StreamError) : Type 0 where
     pub given : ℕ
     pub place : ℕ
