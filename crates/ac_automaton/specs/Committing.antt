@@ -73,7 +73,7 @@ pub record AreMade (g : TrieView) (m : Made) : Type 0 where
 abbrev pub NeedsNone : TrieView → List ℕ → ℕ → List ℕ → Type 0
 NeedsNone g index s u = (slice_index_or index s 0 ≢ 0) ⊎ (all_matches g (Some u) ≢ [])
 
--- it was not, nor does the string
+-- the commit of a state was not made, and its string doesn't end with a match
 pub record NeedsOne (g : TrieView) (index : List ℕ) (s : ℕ) (u : List ℕ) : Type 0 where
   pub empty : slice_index_or index s 0 ≡ 0
   pub matchless : all_matches g (Some u) ≡ []

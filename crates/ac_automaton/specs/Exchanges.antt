@@ -145,8 +145,8 @@ module _ {E D : Type 0} (passing : Passing E D)
     pub clear : passing.held t.closure ≡ []
     pub steps : Steps (take place bytes) 0 (take given (stream_result built bytes)) s None t
 
-  -- first the steps were made by which the stream is settled without the last bytes, of which there are no more than a buffer has, and
-  -- nothing was held back; the others have ended with an error
+  -- without the last bytes, of which there are no more than a buffer has, the stream is settled by so many matches: the steps for these
+  -- were made first, and nothing was held back; the others have ended with an error
   pub record HasExchangedFirst (built : Built) (bytes : List ℕ) (given place : ℕ) (s : Replacing E D) (e : StreamError)
       (t : Replacing E D) : Type 0 where
     pub before : List ℕ

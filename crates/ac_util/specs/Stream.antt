@@ -177,8 +177,8 @@ module _ {F D : Type 0} (told : D → Writing)
       (given place : ℕ) × IsSettledBy built.kind built bytes given place × IsNear built bytes place
       × StreamStepsLead bytes (take given (stream_result built bytes)) place None new
 
-  -- the steps over these bytes as far as an offset have ended with an error: first all were made by which the stream is settled without
-  -- the last bytes, of which there are no more than a buffer has, and then the others
+  -- the steps over these bytes as far as an offset have ended with an error. Without the last bytes, of which there are no more than a
+  -- buffer has, the stream is settled by so many matches: the steps for these were made first, and then the others
   pub record HasMadeFirst (bytes : List ℕ) (given place : ℕ) (new : D) (e : StreamError) : Type 0 where
     pub before : List ℕ
     pub count : ℕ
