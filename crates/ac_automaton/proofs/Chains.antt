@@ -5,17 +5,17 @@ use Rattle.std.proofs.lemmas.List.{append-nil, append_assoc, get_or_append_left,
 use Rattle.std.proofs.lemmas.Option.{get_or_from_slice_get, slice_get_read, slice_get_within, slice_get-get_or}
 use Rattle.ac_automaton.specs.declared.automaton.commits.ChainMatch.{ChainMatch}
 use Rattle.ac_automaton.specs.declared.automaton.commits.Link.{Link}
-use Rattle.ac_automaton.specs.Commits.{AreLinks, chain_at, chains_after, chains_of, GrowsBy, HasChains, IsFront, IsLink, match_of, shifted}
+use Rattle.ac_automaton.specs.Commits.{AreLinks, chain_at, chains_after, chains_of, GrowsBy, HasChains, IsFront, IsLink, linked_match, shifted}
 use Rattle.ac_automaton.proofs.Places.{get-added, get-added_cases, get-append}
 
 -- one link more at the end makes one chain more
 pub chains-more : (chains : List (List ChainMatch)) (links : List Link) (link : Link)
     → chains_after chains (links ++ link ∷ [])
-    ≡ chains_after chains links ++ (chain_at (chains_after chains links) link.before ++ match_of link ∷ []) ∷ []
+    ≡ chains_after chains links ++ (chain_at (chains_after chains links) link.before ++ linked_match link ∷ []) ∷ []
 unfolding chains_after
 chains-more chains [] link = refl
 chains-more chains (l ∷ links) link =
-    chains-more (chains ++ (chain_at chains l.before ++ match_of l ∷ []) ∷ []) links link
+    chains-more (chains ++ (chain_at chains l.before ++ linked_match l ∷ []) ∷ []) links link
 
 -- of no links there is the empty chain alone
 pub no-chains : chains_of [] ≡ [] ∷ []
@@ -36,9 +36,9 @@ first-kept : (chains : List (List ChainMatch)) (links : List Link) → 0 < lengt
 unfolding chains_after
 first-kept chains [] some = refl
 first-kept chains (l ∷ links) some =
-    first-kept (chains ++ (chain_at chains l.before ++ match_of l ∷ []) ∷ []) links
-    (let long = length-append chains ((chain_at chains l.before ++ match_of l ∷ []) ∷ []) in omega arith)
-    ∙ chain-kept chains ((chain_at chains l.before ++ match_of l ∷ []) ∷ []) 0 some
+    first-kept (chains ++ (chain_at chains l.before ++ linked_match l ∷ []) ∷ []) links
+    (let long = length-append chains ((chain_at chains l.before ++ linked_match l ∷ []) ∷ []) in omega arith)
+    ∙ chain-kept chains ((chain_at chains l.before ++ linked_match l ∷ []) ∷ []) 0 some
 
 pub chain-none : {chains : List (List ChainMatch)} (links : List Link) → chains_of links ≡ chains → chain_at chains 0 ≡ []
 chain-none links are =
@@ -62,7 +62,7 @@ link-kept chains more place link within is =
     record {
       before = is.before;
       jump = is.jump;
-      grows = same ∙ is.grows ∙ ap (λ (c : List ChainMatch). c ++ match_of link ∷ [])
+      grows = same ∙ is.grows ∙ ap (λ (c : List ChainMatch). c ++ linked_match link ∷ [])
           (sym (chain-kept chains more link.before (let b = is.before in omega arith)));
       count = is.count ∙ ap length (sym same);
       few = is.few;
@@ -86,7 +86,7 @@ module _ (links : List Link) (are : AreLinks links) (link : Link) (added : IsAdd
   old = chains_of links
 
   abbrev longer : List ChainMatch
-  longer = chain_at old link.before ++ match_of link ∷ []
+  longer = chain_at old link.before ++ linked_match link ∷ []
 
   abbrev new : List (List ChainMatch)
   new = old ++ longer ∷ []
@@ -101,15 +101,15 @@ module _ (links : List Link) (are : AreLinks links) (link : Link) (added : IsAdd
       record {
         before = (let b = added.before in omega arith);
         jump = (let b = added.before in let j = added.jump in omega arith);
-        grows = new-chain ∙ ap (λ (c : List ChainMatch). c ++ match_of link ∷ []) (sym same);
-        count = added.count ∙ sym (ap length new-chain ∙ length-append (chain_at old link.before) (match_of link ∷ []));
+        grows = new-chain ∙ ap (λ (c : List ChainMatch). c ++ linked_match link ∷ []) (sym same);
+        count = added.count ∙ sym (ap length new-chain ∙ length-append (chain_at old link.before) (linked_match link ∷ []));
         few = (let b = added.before in let f = added.few in omega arith);
         skips = record {
-          rest = added.front.rest ++ match_of link ∷ [];
+          rest = added.front.rest ++ linked_match link ∷ [];
           whole =
-              new-chain ∙ ap (λ (c : List ChainMatch). c ++ match_of link ∷ []) added.front.whole
-              ∙ append_assoc (chain_at old link.jump) added.front.rest (match_of link ∷ [])
-              ∙ ap (λ (c : List ChainMatch). c ++ (added.front.rest ++ match_of link ∷ []))
+              new-chain ∙ ap (λ (c : List ChainMatch). c ++ linked_match link ∷ []) added.front.whole
+              ∙ append_assoc (chain_at old link.jump) added.front.rest (linked_match link ∷ [])
+              ∙ ap (λ (c : List ChainMatch). c ++ (added.front.rest ++ linked_match link ∷ []))
               (sym (chain-kept old (longer ∷ []) link.jump (let b = added.before in let j = added.jump in omega arith)));
         };
       }
@@ -133,7 +133,7 @@ module _ (links : List Link) (are : AreLinks links) (link : Link) (added : IsAdd
           subst (λ (k : ℕ). IsLink new k l) (sym last.0) (subst (IsLink new (length links)) last.1 new-link)
 
   -- and the chain before has grown by the match
-  pub chain-added : GrowsBy old link.before (match_of link ∷ []) (chains_of (links ++ link ∷ [])) (length links + 1)
+  pub chain-added : GrowsBy old link.before (linked_match link ∷ []) (chains_of (links ++ link ∷ [])) (length links + 1)
   chain-added = record {
     kept = record { added = longer ∷ []; whole = chains-more ([] ∷ []) links link };
     chained =
@@ -147,7 +147,7 @@ pub record IsLast (chains : List (List ChainMatch)) (chain : ℕ) (link : Link) 
   pub before : link.before < chain
   pub jump : link.jump < chain
   pub chained : chain < length chains
-  pub grows : chain_at chains chain ≡ chain_at chains link.before ++ match_of link ∷ []
+  pub grows : chain_at chains chain ≡ chain_at chains link.before ++ linked_match link ∷ []
   pub count : link.count ≡ length (chain_at chains chain)
   pub few : link.count ≤ chain
   pub skips : IsFront (chain_at chains link.jump) (chain_at chains chain)
@@ -164,7 +164,7 @@ link-last links chain link are some within is =
       before = (let b = at.before in omega (arith, some));
       jump = (let j = at.jump in omega (arith, some));
       chained = within;
-      grows = subst (λ (n : ℕ). chain_at (chains_of links) n ≡ chain_at (chains_of links) link.before ++ match_of link ∷ []) number at.grows;
+      grows = subst (λ (n : ℕ). chain_at (chains_of links) n ≡ chain_at (chains_of links) link.before ++ linked_match link ∷ []) number at.grows;
       count = subst (λ (n : ℕ). link.count ≡ length (chain_at (chains_of links) n)) number at.count;
       few = (let f = at.few in omega arith);
       skips = subst (λ (n : ℕ). IsFront (chain_at (chains_of links) link.jump) (chain_at (chains_of links) n)) number at.skips;
@@ -190,12 +190,12 @@ get-front front all index is within =
 
 -- the last match of a chain
 pub get-last : {chains : List (List ChainMatch)} {chain : ℕ} {link : Link} → IsLast chains chain link
-    → slice_get (chain_at chains chain) (link.count - 1) ≡ Some (match_of link)
+    → slice_get (chain_at chains chain) (link.count - 1) ≡ Some (linked_match link)
 get-last {chains = chains} {chain = chain} {link = link} last =
-    subst (λ (n : ℕ). slice_get (chain_at chains chain) n ≡ Some (match_of link))
-    (sym (let c = last.count ∙ ap length last.grows ∙ length-append (chain_at chains link.before) (match_of link ∷ []) in omega arith))
+    subst (λ (n : ℕ). slice_get (chain_at chains chain) n ≡ Some (linked_match link))
+    (sym (let c = last.count ∙ ap length last.grows ∙ length-append (chain_at chains link.before) (linked_match link ∷ []) in omega arith))
     (ap (λ (c : List ChainMatch). slice_get c (length (chain_at chains link.before))) last.grows
-    ∙ get-added (chain_at chains link.before) (match_of link))
+    ∙ get-added (chain_at chains link.before) (linked_match link))
 
 -- chains that became more once and once again
 pub has-more : {first second third : List (List ChainMatch)} → HasChains first second → HasChains second third

@@ -15,7 +15,7 @@ use Rattle.ac_automaton.specs.declared.automaton.commits.Commit.{Commit}
 use Rattle.ac_automaton.specs.declared.nfa.noncontiguous.state.Transition.{Transition}
 use Rattle.ac_automaton.specs.Commits.{chain_at, GrowsBy, HasChains, IsChainMatch, shifted}
 use Rattle.ac_automaton.specs.declared.nfa.noncontiguous.commits.Making.{Making}
-use Rattle.ac_automaton.specs.Committing.{AreMade, chain_by, ending_by, HasCommit, HasString, IsViewOf, LeadsToChild, lists_of, ListsView, Made, made_of, MayCommit, NeedsOne}
+use Rattle.ac_automaton.specs.Committing.{AreMade, ending_by, HasCommit, HasString, IsViewOf, LeadsToChild, lists_of, ListsView, Made, made_of, MayCommit, NeedsOne}
 use Rattle.ac_automaton.specs.Prelude.{HasState, IsNumbered, START, State, TrieView}
 use Rattle.ac_automaton.proofs.Chains.{chain-same, chains-longer, has-more}
 use Rattle.ac_automaton.proofs.Committing.{holds-none, number-node, shorter-before, string-few}
@@ -111,7 +111,7 @@ pub record OnWay {Z : Type 0} {making : Making Z} {parent : Commit} {next : Tran
   pub named : IsNumbered leads.child.at.view.nodes at node
   pub way : NodeCommits leads.child.at.view.kind leads.child.at.view.patterns leads.child.at.string
       (Next (plain_byte leads.child.at.view.ignores_case next.byte)) leads.child.commit.picked
-      (chain_by leads.child.at.view.patterns chains chain) node
+      (map (ending_by leads.child.at.view.patterns) (chain_at chains chain)) node
 
 module _ {Z : Type 0} {making : Making Z} {parent : Commit} {next : Transition} (leads : LeadsToChild making parent next) where
   abbrev g : TrieView
@@ -140,7 +140,7 @@ module _ {Z : Type 0} {making : Making Z} {parent : Commit} {next : Transition} 
     way = record {
       picked = commit.gives.picked;
       rest = commits-where g.kind g.patterns may-commit.leftmost may-commit.some (drop commit.picked.end u)
-          (chain_by g.patterns making.chains parent.chain) commit.node (Next b) commit.gives.rest;
+          (map (ending_by g.patterns) (chain_at making.chains parent.chain)) commit.node (Next b) commit.gives.rest;
     };
   }
 
@@ -152,7 +152,7 @@ module _ {Z : Type 0} {making : Making Z} {parent : Commit} {next : Transition} 
 
   module _ {chains : List (List ChainMatch)} {at chain : ℕ} (way : OnWay leads chains at chain) where
     abbrev given : List Occurrence
-    given = chain_by g.patterns chains chain
+    given = map (ending_by g.patterns) (chain_at chains chain)
 
     -- the node is shorter than the string
     pub way-short : length way.node ≤ parent.rest
@@ -208,7 +208,7 @@ module _ {Z : Type 0} {making : Making Z} {parent : Commit} {next : Transition} 
       -- its commit lies within what is left
       module _ (held : Commit) (has : HasCommit g chains way.node held) where
         abbrev more : List Occurrence
-        more = chain_by g.patterns chains held.chain
+        more = map (ending_by g.patterns) (chain_at chains held.chain)
 
         pub held-short : held.rest ≤ parent.rest
         held-short = let short = way-short in let rest = has.rest in omega arith

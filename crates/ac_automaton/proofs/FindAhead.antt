@@ -1,12 +1,15 @@
 -- A find that reads on from match to match: what is picked where it has come to.
-use Rattle.std.proofs.Common.{◌≡◌, ◌≢◌, ◌⊎◌, ℕ, zero, suc, ◌+◌, ◌-◌, ◌<◌, ◌≤◌, Bool, true, false, IsTrue, ◌↔◌, List, [], length, refl, ap, sym, ◌∙◌, inl, inr, arith, Option, Some, None, option_map, slice_get, IfSome, max, rules}
+use Rattle.std.proofs.Common.{◌≡◌, ◌≢◌, ◌⊎◌, ℕ, zero, suc, ◌+◌, ◌-◌, ◌<◌, ◌≤◌, Bool, true, false, IsTrue, ◌↔◌, List, [], length, refl, ap, sym, ◌∙◌, inl, inr, arith, Option, Some, None, option_map, slice_get, IfSome, max, rules, subst}
 use Rattle.std.specs.Option.{option_or}
 use Rattle.std.proofs.lemmas.Grind.{common_steps}
 use Rattle.ac_util.specs.declared.search.Anchored.{Anchored}
 use Rattle.ac_automaton.specs.Util.{Built, is_leftmost, MatchKind, Node, Occurrence, order_of, pick, Span, Standard}
 use Rattle.ac_util.proofs.SearchLoop.{SearchGoesOn}
-use Rattle.ac_automaton.specs.Prelude.{found_at, in_memory, IsAnswered, IsDecided, matches_of, NoMatchBetween, place_of, Scan}
+use Rattle.ac_automaton.specs.Prelude.{found_at, in_memory, IsDecided, matches_of, NoMatchBetween, place_of, Scan}
 use Rattle.ac_automaton.proofs.FindLoop.{dead-stays, found-end, goes_on-by, goes_on-none, node_at, order, picked-final, picked-newly, picked-still, q, up_to}
+use Rattle.ac_automaton.specs.Cores.{first_given, Leaves}
+use Rattle.ac_automaton.specs.declared.automaton.onward.Given.{Given}
+use Rattle.ac_automaton.specs.declared.automaton.onward.Position.{Position}
 
 module _ (s : Scan) (stops : Bool) (bytes : List ℕ) (span : Span) where
   abbrev node : ℕ → Node
@@ -65,7 +68,7 @@ module _ (s : Scan) (stops : Bool) (bytes : List ℕ) (span : Span) where
       kept standard (Some m) is some = sym is ∙ picked-final s stops bytes span at m up standard (is ∙ picked)
 
       -- what is picked so far is the pick
-      pub answer-there : IsAnswered stops span.end at (node at) r
+      pub answer-there : (span.end ≤ at) ⊎ (((node at) ≡ None) ⊎ ((stops ≡ true) × (r ≢ None)))
           → r ≡ pick (order s stops bytes span) (q s stops bytes span)
       answer-there (inl over) = let e : at ≡ span.end = omega arith in picked ∙ ap picked_to e
       answer-there (inr (inl dead)) = elim (kept-or-goes s.built.kind stops r leftmost) [
@@ -75,7 +78,8 @@ module _ (s : Scan) (stops : Bool) (bytes : List ℕ) (span : Span) where
       answer-there (inr (inr first)) = kept (ap (order_of s.built.kind) first.0) r refl first.1
 
       -- and it has read enough
-      pub decided-there : {place : ℕ} → IsAnswered stops span.end at (node at) r → at ≤ max span.start place → place ≤ at
+      pub decided-there : {place : ℕ} → ((span.end ≤ at) ⊎ (((node at) ≡ None) ⊎ ((stops ≡ true) × (r ≢ None))))
+          → at ≤ max span.start place → place ≤ at
           → IsDecided s.built.kind (order s stops bytes span) (q s stops bytes span) r place
       decided-there (inl over) whole unread = inr (inl (omega arith))
       decided-there {place = place} (inr (inl dead)) whole unread = grind (arith, common_steps)
@@ -101,5 +105,18 @@ pub record IsUnanswered (stops : Bool) (end at : ℕ) (u : Node) (last : Option 
 
 -- so says a test whether it has its answer
 pub unanswered-by : {stops : Bool} {end at : ℕ} {u : Node} {last : Option Occurrence} (test : Bool)
-    → (IsTrue test ↔ IsAnswered stops end at u last) → test ≡ false → IsUnanswered stops end at u last
+    → (IsTrue test ↔ ((end ≤ at) ⊎ ((u ≡ None) ⊎ ((stops ≡ true) × (last ≢ None))))) → test ≡ false
+    → IsUnanswered stops end at u last
 unanswered-by {stops} {end} {at} {u} {last} test says fails = grind (arith, common_steps)
+
+-- what is given of a state by its first match is found there
+pub found-first : (built : Built) (start : ℕ) (listed : List ℕ) (old new : Position) (found : Option Occurrence) (given : Option Given)
+    → given ≡ first_given start listed → Leaves built old given found new
+    → found ≡ option_map (place_of built old.cursor.at) (slice_get listed 0)
+found-first built start listed old new found given is gives =
+    by (slice_get listed 0) (subst (λ (g : Option Given). Leaves built old g found new) is gives)
+  where
+    by : (first : Option ℕ) → Leaves built old (option_map (λ (p : ℕ). record { pattern = p; rest = 0; next = start; chain = None }) first) found new
+        → found ≡ option_map (place_of built old.cursor.at) first
+    by None gives = gives.0
+    by (Some p) gives = gives.0 ∙ ap (λ (k : ℕ). Some (place_of built k p)) (let e : old.cursor.at - 0 ≡ old.cursor.at = omega arith in e)

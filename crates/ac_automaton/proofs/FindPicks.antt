@@ -5,13 +5,14 @@ use Rattle.std.proofs.lemmas.Grind.{common_steps}
 use Rattle.ac_util.proofs.SearchLoop.{SearchGoesOn}
 use Rattle.ac_util.specs.declared.search.Anchored.{Anchored}
 use Rattle.ac_automaton.specs.Util.{Counts, is_leftmost, Node, Occurrence, order_of, pick, Span, Standard, Taped, usize_max}
-use Rattle.ac_automaton.specs.Prelude.{AutomatonView, Cursor, finding_of, HasSearched, FindsIn, FitsIn, found_at, in_memory, IsAlive, IsAnswered, IsAt, MayAdvance, MaySearch, node, PassesNoMatch, Scan, scan_of, ScannerView, ScansTo, ScanText, search_through, work_of}
+use Rattle.ac_automaton.specs.Prelude.{AutomatonView, Cursor, finding_of, HasSearched, FindsIn, FitsIn, found_at, in_memory, IsAlive, IsAt, MayAdvance, MaySearch, node, PassesNoMatch, Scan, scan_of, ScannerView, ScansTo, ScanText, search_through, work_of}
 use Rattle.ac_automaton.specs.Reads.{Advances, at, Point}
 use Rattle.ac_automaton.specs.Scans.{tape_with, Work, WorkedTape}
 use Rattle.ac_automaton.specs.Finds.{FindsAt, StandsIn}
 use Rattle.ac_automaton.proofs.FindAhead.{IsUnanswered, answer-there, decided-there, ends-or, ends-there, picked-or, unanswered-by}
 use Rattle.ac_automaton.proofs.FindLoop.{goes_on-by, picked-start, picking_by, searched}
 use Rattle.ac_automaton.proofs.ReadOn.{at-start, node-fits, scans-nothing, scans-on}
+use Rattle.std.specs.Prelude.{◌⊎◌, None, ◌≢◌}
 
 module _ (v : ScannerView) (bytes : List ℕ) (here : Cursor) (is_at : IsAt v.scan (in_memory bytes v.span) here.state here.at) where
   -- the node where it stands fits into what was read
@@ -87,7 +88,8 @@ module _ {v : ScannerView} {stops : Bool} {start : Cursor} {tape : Taped} (may :
       stands = on.is_at.there
 
       module _ {test : Bool}
-          (says : (u : Node) → v.scan.stands here.state u → IsTrue test ↔ IsAnswered stops v.span.end here.at u last) where
+          (says : (u : Node) → v.scan.stands here.state u → IsTrue test
+          ↔ ((v.span.end ≤ here.at) ⊎ ((u ≡ None) ⊎ ((stops ≡ true) × (last ≢ None))))) where
         -- without its answer it may read on, and picks what is found where it has then come to, or else what it did
         module _ (fails : test ≡ false) where
           unanswered : IsUnanswered stops v.span.end here.at (node v.scan text-there here.at) last

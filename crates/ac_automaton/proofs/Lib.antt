@@ -3,6 +3,7 @@ pub mod Branching
 pub mod Chains
 pub mod Child
 pub mod ChildFails
+pub mod ChildTransitions
 pub mod CommitAdding
 pub mod CommitSearch
 pub mod CommitSteps
@@ -15,6 +16,7 @@ pub mod FindAhead
 pub mod FindLoop
 mod FindPicks
 pub mod FindGives
+pub mod FindReading
 pub mod Follows
 pub mod Gathering
 pub mod Grown
@@ -36,6 +38,7 @@ pub mod OnwardGoes
 pub mod OnwardLists
 pub mod OnwardNeedle
 pub mod OnwardReads
+pub mod OnwardTakes
 pub mod Orders
 pub mod Overlapping
 pub mod PastGives
@@ -69,7 +72,15 @@ pub mod StreamFilling
 pub mod StreamReplacing
 pub mod StreamTexts
 pub mod Steps
+pub mod StreamBegins
+pub mod StreamExchanged
+pub mod StreamMoving
+pub mod StreamReplaced
+pub mod StreamSearched
 pub mod TrieStates
+pub mod TriedBytes
+pub mod WalkBegins
+pub mod WalkKept
 pub mod WalkLoop
 pub mod WalkOnce
 pub mod WalkRuns

@@ -2,12 +2,12 @@
 use Rattle.std.proofs.Common.{◌≡◌, ◌⊎◌, ◌<◌, ℕ, [], IsTrue, ◌↔◌, Bool, false, subst, sym, ◌∙◌, inr, Option, Some, None, rules}
 use Rattle.std.proofs.lemmas.Bool.{cases_lt, false≢true}
 use Rattle.ac_automaton.specs.Util.{Counts, Node, Occurrence, Taped}
-use Rattle.ac_automaton.specs.Scans.{IsOver}
 use Rattle.ac_automaton.specs.Prelude.{Cursor, due_in, in_memory, IsAlive, Lists, ListsOn, MayAdvance, MayList, node, PassesNoMatch, Reached, Scan, ScannerView, ScansTo, ScanText, search_through, work_of}
 use Rattle.ac_automaton.specs.Overlaps.{HasGivenItem, TakesDue}
 use Rattle.ac_automaton.specs.Reads.{Advances, at}
 use Rattle.ac_automaton.proofs.ListLoop.{HasComeOn, come-on, has-moved}
 use Rattle.ac_automaton.proofs.ReadOn.{scans-on}
+use Rattle.std.specs.Prelude.{◌≤◌}
 
 -- the listing has come on to here, and has given no item
 pub record HasListedOn (v : ScannerView) (start : Reached) (tape : Taped) (counts : Counts) (reached : Reached)
@@ -61,7 +61,8 @@ module _ {v : ScannerView} {start : Reached} {tape : Taped} {counts : Counts} (m
         on.on.leaves.reaches.there
 
     module _ {test : Bool}
-        (says : IsTrue test ↔ IsOver v.span.end left.at (node v.scan (in_memory tape.bytes v.span) reached.at)) where
+        (says : IsTrue test ↔ ((v.span.end ≤ left.at)
+        ⊎ ((node v.scan (in_memory tape.bytes v.span) reached.at) ≡ None))) where
       -- it has none left where nothing is left to read
       pub ends-listing : IsTrue test → ListsOn v start tape counts None left tape_here counts_here
       ends-listing holds = search (rules, gave, lists-on)

@@ -20,7 +20,8 @@ use Rattle.ac_automaton.specs.declared.automaton.onward.Position.{Position}
 use Rattle.ac_automaton.specs.declared.automaton.scan.Dead.{Dead}
 use Rattle.ac_automaton.proofs.Heads.{head-fits, plain_length}
 use Rattle.ac_automaton.proofs.Looks.{step-short}
-use Rattle.ac_automaton.proofs.OnwardGives.{given-none, given-some, gives-past, may-take, takes-next}
+use Rattle.ac_automaton.proofs.OnwardGives.{given-none, given-some, gives-past}
+use Rattle.ac_automaton.proofs.OnwardTakes.{may-take, takes-next}
 use Rattle.ac_automaton.proofs.OnwardNeedle.{needle-after, needle-gives}
 use Rattle.ac_automaton.proofs.OnwardReads.{may-onward, onward-on, onward-stops}
 use Rattle.ac_automaton.proofs.ReadingOn.{reads-then}

@@ -9,8 +9,9 @@ use Rattle.std.proofs.lemmas.Cmp.{nat_list_cmp_total, ranked}
 use Rattle.std.proofs.lemmas.Grind.{common_steps}
 use Rattle.std.proofs.Math.Nat.{pow-suc}
 use Rattle.ac_automaton.specs.Util.{plain}
-use Rattle.ac_automaton.specs.Prelude.{compared, compared_by_bytes, HasHead, head_of, SortedPattern}
+use Rattle.ac_automaton.specs.Prelude.{compared, compared_by_bytes, head_of, SortedPattern}
 use Rattle.ac_automaton.proofs.ReadOn.{below_next}
+use Rattle.ac_automaton.specs.Sorted.{IsHead}
 
 -- the first n bytes of a string are bytes
 abbrev pub AreSmall : ℕ → List ℕ → Type 0
@@ -104,13 +105,15 @@ module _ (ignores_case : Bool) (a b : SortedPattern) where
   both Greater heads bytes = search rules
 
   -- as the heads compare, so do the patterns
-  by_heads : (o : Ordering) → o ≡ nat_cmp a.head b.head → HasHead ignores_case a → HasHead ignores_case b
+  by_heads : (o : Ordering) → o ≡ nat_cmp a.head b.head → IsHead a.head (plain ignores_case a.bytes.now)
+      → IsHead b.head (plain ignores_case b.bytes.now)
       → compared ignores_case a b ≡ compared_by_bytes ignores_case a b
   by_heads Less is x y = search (rules, both, head-less, nat_list_cmp_total, ranked)
   by_heads Equal is x y = ap (λ o. ordering_then o (compared_by_bytes ignores_case a b)) (sym is)
   by_heads Greater is x y = search (rules, both, head-less, nat_list_cmp_total, ranked)
 
   -- two patterns with their heads compare as their bytes do
-  pub compared-by_bytes : HasHead ignores_case a → HasHead ignores_case b
+  pub compared-by_bytes : IsHead a.head (plain ignores_case a.bytes.now)
+      → IsHead b.head (plain ignores_case b.bytes.now)
       → compared ignores_case a b ≡ compared_by_bytes ignores_case a b
   compared-by_bytes x y = by_heads (nat_cmp a.head b.head) refl x y

@@ -25,9 +25,10 @@ use denote.Param.Members.{Mut}
 use denote.Ref.{Bor}
 use Rattle.ac_automaton.specs.Util.{participants, pattern_of, plain, Standard}
 use Rattle.ac_util.proofs.Lists.{IsOrdered, IsOrdered-map, IsOrdered-range, AllPairs-from_IsOrdered}
-use Rattle.ac_automaton.specs.Prelude.{AreListed, compared, compared_by_bytes, HasHead, IsOrder, Keyed, keyed, keyed_one, numbers, Precedes, SortedPattern}
+use Rattle.ac_automaton.specs.Prelude.{AreListed, compared, compared_by_bytes, IsOrder, Keyed, keyed, keyed_one, numbers, Precedes, SortedPattern}
 use Rattle.ac_automaton.proofs.Counting.{IsOrdered-from_AllPairs}
 use Rattle.ac_automaton.proofs.PatternHeads.{compared-by_bytes}
+use Rattle.ac_automaton.specs.Sorted.{IsHead}
 
 -- the view has the number of the pattern that is stored at a place
 pub sorted_number : (ignores_case : Bool) (sorted : List SortedPattern) (place : ℕ) (m : SortedPattern)
@@ -199,10 +200,12 @@ module _ (ignores_case : Bool) (patterns : List (List ℕ)) (listed : List Sorte
         )
 
     -- sorted by the comparison they stand in order
-    pub IsOrder-from_sorted : All (HasHead ignores_case) listed → IsSortedBy (λ a b. is_lt (compared ignores_case a b)) sorted
+    pub IsOrder-from_sorted : All (λ m. IsHead m.head (plain ignores_case m.bytes.now)) listed → IsSortedBy
+        (λ a b. is_lt (compared ignores_case a b)) sorted
         → IsOrder Standard (map (plain ignores_case) patterns) (keyed ignores_case sorted)
     IsOrder-from_sorted listed_heads up =
-        let heads = All-permutation (HasHead ignores_case) listed sorted moved listed_heads in
+        let heads = All-permutation
+        (λ m. IsHead m.head (plain ignores_case m.bytes.now)) listed sorted moved listed_heads in
         let less = λ (a b : SortedPattern). is_lt (compared ignores_case a b) in
         let far = sorted_far less (ranks_by (compared-total ignores_case) (λ m. m)) sorted up in
         let before = IsOrdered-from_AllPairs (StandsBefore ignores_case) sorted (λ i j d below within. record {

@@ -2,8 +2,9 @@
 use Rattle.std.proofs.Common.{◌≡◌, ℕ, ◌≤◌, Bool, List, [], ◌++◌, length, sym, subst, arith, Option, Some, None, Result, Ok, Err}
 use Rattle.std.proofs.lemmas.Grind.{common_steps}
 use Rattle.ac_automaton.specs.Util.{Occurrence, Reading, ReadsAll, ReadsSome, Standard, stream_result, StreamError, usize_max}
-use Rattle.ac_automaton.specs.Prelude.{Ended, EndsNow, Failed, GivesLast, GivesMatch, GivesNone, GoesOnBy, HasGivenLast, HasGivenSettled, KeepsGiven, MeetsEnd, Open, Phase, Streaming, Streams}
+use Rattle.ac_automaton.specs.Prelude.{Ended, EndsNow, Failed, GivesMatch, GivesNone, GoesOnBy, HasGivenLast, HasGivenSettled, KeepsGiven, MeetsEnd, Open, Phase, Streaming, Streams}
 use Rattle.ac_automaton.specs.Streams.{GivesNextMatch}
+use Rattle.std.specs.Prelude.{MatchOption, MatchResult}
 
 -- the end was met after some bytes more, or before; under Standard all matches were given before it was
 module _ (ends : Bool) (old between new : Streaming) (reader new_reader : Reading) (more : List ℕ)
@@ -26,7 +27,8 @@ module _ (ends : Bool) (old between new : Streaming) (reader new_reader : Readin
   none-by Ended h done = done
   none-by Failed h done = absurd h
 
-  pub gives-last : (result : Option (Result Occurrence StreamError)) → GivesLast between result new
+  pub gives-last : (result : Option (Result Occurrence StreamError)) → MatchOption result (HasGivenLast between new)
+      (λ item. MatchResult item (λ m. GivesMatch between m new) (λ e. ⊥))
       → Streams ends (record { stream = old; reader = reader }) result (record { stream = new; reader = new_reader })
   gives-last None done = none-by old.phase reads (ends-now done)
   gives-last (Some (Ok m)) gives = gives-next m gives
@@ -52,6 +54,7 @@ module _ (ends : Bool) (old between searched filled new : Streaming) (reader mid
   early standard = grind (arith, common_steps)
 
   pub ended-then : length (old.bytes ++ more) ≤ usize_max → KeepsGiven old (old.bytes ++ more)
-      → (result : Option (Result Occurrence StreamError)) → GivesLast filled result new
+      → (result : Option (Result Occurrence StreamError)) → MatchOption result (HasGivenLast filled new)
+      (λ item. MatchResult item (λ m. GivesMatch filled m new) (λ e. ⊥))
       → Streams ends (record { stream = old; reader = reader }) result (record { stream = new; reader = new_reader })
   ended-then small keeps = gives-last ends old filled new reader new_reader more filled-is goes-by keeps early small

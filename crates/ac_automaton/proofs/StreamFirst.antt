@@ -1,49 +1,31 @@
--- The search of a stream under Standard: it gives the first match of the state to which it has come, or has searched all that was
--- read.
-use Rattle.std.proofs.Common.{◌≡◌, ◌⊎◌, cond, ℕ, zero, suc, ◌+◌, ◌-◌, ◌<◌, ◌≤◌, Bool, true, false, List, [], ◌∷◌, ◌++◌, length, length-append, slice_get, slice_index, inl, inr, refl, ap, sym, subst, ◌∙◌, arith, Option, Some, None, IfSome, option_map}
+-- The search of a stream under Standard: it gives the first match of the state to which it has come.
+use Rattle.std.proofs.Common.{◌≡◌, cond, ℕ, zero, suc, ◌+◌, ◌-◌, ◌<◌, ◌≤◌, Bool, true, false, List, [], ◌∷◌, ◌++◌, length, length-append, slice_get, inl, inr, refl, ap, sym, subst, ◌∙◌, arith, Option, Some, None, IfSome, option_map}
 use Rattle.std.proofs.lemmas.Bool.{cases_lt}
 use Rattle.std.proofs.lemmas.List.{append-nil}
 use Rattle.ac_util.specs.Prelude.{step}
 use Rattle.ac_util.specs.Commits.{StandsAfter}
-use Rattle.ac_automaton.specs.Util.{Built, has_empty, longest_len, MatchKind, No, Node, Occurrence, pattern_of, pick, Search, Standard}
+use Rattle.ac_automaton.specs.Util.{longest_len, MatchKind, No, Node, Occurrence, pattern_of, pick, Search, Standard}
 use Rattle.ac_util.proofs.Beginning.{ends_by, pick-within, within}
-use Rattle.ac_util.proofs.Living.{dead-picked}
 use Rattle.ac_util.proofs.Longer.{pick-extended}
 use Rattle.ac_util.proofs.OneLonger.{pick-empty_some}
 use Rattle.ac_util.proofs.Onward.{after-start, byte_at, step-byte}
 use Rattle.ac_util.proofs.SearchLoop.{pick-found, pick-goes_on}
-use Rattle.ac_util.proofs.Shortest.{longest-most, none-empty}
+use Rattle.ac_util.proofs.Shortest.{longest-most}
 use Rattle.ac_util.proofs.Walks.{pick-Occurs}
-use Rattle.ac_automaton.specs.Prelude.{AutomatonView, Cursor, Inside, IsStreaming, matches_of, node_at, Phase, place_of, plain_of, StandsPast, step_of, stream_from, Streaming}
+use Rattle.ac_automaton.specs.Prelude.{AutomatonView, Cursor, Inside, IsStreaming, matches_of, node_at, Phase, place_of, plain_of, StandsPast, stream_from, Streaming}
 use Rattle.ac_automaton.specs.Cores.{first_given, pending}
 use Rattle.ac_automaton.specs.Onward.{IsRestBefore}
 use Rattle.ac_automaton.specs.Streams.{streaming_by}
-use Rattle.ac_automaton.specs.Reads.{led, StopsAt}
+use Rattle.ac_automaton.specs.Reads.{led}
 use Rattle.ac_automaton.specs.Scans.{scan_of}
 use Rattle.ac_automaton.specs.declared.automaton.commits.ChainMatch.{ChainMatch}
 use Rattle.ac_automaton.specs.declared.automaton.onward.ChainRest.{ChainRest}
 use Rattle.ac_automaton.specs.declared.automaton.onward.Given.{Given}
-use Rattle.ac_automaton.proofs.LedWalks.{byte-is, led-reached, node-is}
-use Rattle.ac_automaton.proofs.StreamKeeping.{settles-standard}
-use Rattle.ac_automaton.proofs.StreamReads.{at, begun-before, comes, hand-there, HoldsBack, IsReadOn, none-more, of-search, onward, place, q, read-enough, Settles, stands-here, stands-there, u, within-buffer, within-bytes}
+use Rattle.ac_automaton.proofs.LedWalks.{led-reached, node-is}
+use Rattle.ac_automaton.proofs.StreamReads.{at, begun-before, comes, IsReadOn, none-more, of-search, onward, place, q, Settles, stands-here, stands-there, u, within-buffer, within-bytes}
 use Rattle.ac_automaton.proofs.StreamRefusals.{allowed-some}
 use Rattle.ac_automaton.proofs.StreamReserves.{most-back}
-
--- where a search begins nothing is picked
-pub picked-nothing : (built : Built) → has_empty built ≡ false → (order : MatchKind) (bytes : List ℕ) (begun : ℕ)
-    → pick order (record (stream_from built bytes begun) { high = begun }) ≡ None
-picked-nothing built some order bytes begun = by (pick order q) refl
-  where
-    q : Search
-    q = record (stream_from built bytes begun) { high = begun }
-
-    by : (r : Option Occurrence) → pick order q ≡ r → pick order q ≡ None
-    by None e = e
-    by (Some m) e =
-        let o = pick-Occurs order q m e in
-        let long = none-empty built.patterns m.pattern some o.numbered in
-        let a = o.from_low in let b = o.as_long in let c = o.to_high in
-        absurd (omega arith)
+use Rattle.ac_automaton.proofs.StreamBegins.{picked-nothing}
 
 -- what of a match is picked that ends by an offset
 within-some : (h : ℕ) (r : Option Occurrence) (m : Occurrence) → within h r ≡ Some m → r ≡ Some m
@@ -72,7 +54,7 @@ module _ (a : AutomatonView) {bytes : List ℕ} {given front kept : ℕ} {phase 
   node k = node_at a.built.kind (q a inv []) k
 
   -- by one byte more the first match of the node there is picked, if nothing was picked before
-  picked-next : (k : ℕ) → i.begun ≤ k → k < length bytes → picked k ≡ None → (ns : List ℕ)
+  pub picked-next : (k : ℕ) → i.begun ≤ k → k < length bytes → picked k ≡ None → (ns : List ℕ)
       → matches_of a.built No (node (k + 1)) ≡ ns → picked (k + 1) ≡ option_map (place_of a.built (k + 1)) (slice_get ns 0)
   picked-next k low room none [] e =
       let l = ap length (append-nil bytes) in
@@ -132,7 +114,7 @@ module _ (a : AutomatonView) {bytes : List ℕ} {given front kept : ℕ} {phase 
       (quiet (place a inv + n + 1) (omega arith) (omega arith))
 
   -- so the first match of the node where it has come to is picked
-  picked-there : (ns : List ℕ) → matches_of a.built No (Some (u a inv on)) ≡ ns
+  pub picked-there : (ns : List ℕ) → matches_of a.built No (Some (u a inv on)) ≡ ns
       → picked (at a inv on) ≡ option_map (place_of a.built (at a inv on)) (slice_get ns 0)
   picked-there ns e = elim (cases_lt (place a inv) (at a inv on)) [
     | inl further ↦
@@ -156,7 +138,7 @@ module _ (a : AutomatonView) {bytes : List ℕ} {given front kept : ℕ} {phase 
           (stands-there a inv on [] (none-more a inv)))
 
   -- the node to which a byte leads
-  node-next : (k : ℕ) → i.begun ≤ k → k < length bytes → (w : List ℕ) → node k ≡ Some w
+  pub node-next : (k : ℕ) → i.begun ≤ k → k < length bytes → (w : List ℕ) → node k ≡ Some w
       → step a.built.kind (plain_of a.built) No (Some w) (byte_at (q a inv []) k) ≡ None → node (k + 1) ≡ None
   node-next k low room w there dead =
       let l = ap length (append-nil bytes) in
@@ -164,7 +146,7 @@ module _ (a : AutomatonView) {bytes : List ℕ} {given front kept : ℕ} {phase 
       ∙ ap (λ (n : Node). step a.built.kind (plain_of a.built) No n (byte_at (q a inv []) k)) there ∙ dead
 
   module _ (lists : (u : Node) → a.stands No there.state u → a.listed there.state ≡ matches_of a.built No u) where
-    lists-there : a.listed there.state ≡ matches_of a.built No (Some (u a inv on))
+    pub lists-there : a.listed there.state ≡ matches_of a.built No (Some (u a inv on))
     lists-there = lists (Some (u a inv on)) (comes a inv on).there
 
     -- a state with a match gives that
@@ -262,73 +244,3 @@ module _ (a : AutomatonView) {bytes : List ℕ} {given front kept : ℕ} {phase 
         by (n ∷ ns) e is =
             let same : record { pattern = n; rest = 0; next = i.start; chain = None } ≡ gave = cc in
             subst (Settles a chains i v there) same (settles-listed n ns e)
-
-    -- or it has none
-    module _ (nothing : None ≡ first_given i.start (a.listed there.state)) where
-      no-match : a.listed there.state ≡ []
-      no-match = by (a.listed there.state) nothing
-        where
-          by : (ns : List ℕ) → None ≡ first_given i.start ns → ns ≡ []
-          by [] is = refl
-          by (n ∷ ns) is = absurd (cc)
-
-      none-there : picked (at a inv on) ≡ None
-      none-there = picked-there [] (sym lists-there ∙ no-match)
-
-      -- no byte leads to the dead node
-      whole : i.filled ≤ there.at
-      whole = by byte (hand-there a inv on) (comes a inv on).dead (read-enough a inv on)
-        where
-          by : (b : Option ℕ) → IfSome b (λ b. (there.at < i.filled) × (b ≡ slice_index on.shown there.at))
-              → IfSome b (λ b. step_of a.built No (Some (u a inv on)) b ≡ None)
-              → (b ≡ None → (i.filled ≤ there.at) ⊎ StopsAt (scan_of a No i.stops) there.state) → i.filled ≤ there.at
-          by None hand dead enough = elim (enough refl) [
-            | inl over ↦ over
-            | inr stopped ↦ absurd (stopped.1 no-match)
-          ]
-          by (Some b) hand dead enough = absurd (never-dead b hand.0 hand.1 dead)
-            where
-              never-dead : (b : ℕ) → there.at < i.filled → b ≡ slice_index on.shown there.at
-                  → step_of a.built No (Some (u a inv on)) b ≡ None → ⊥
-              never-dead b before is dead =
-                  let c = inv.counted in let l = ap length (append-nil bytes) in let s = begun-before a inv on in
-                  let gone : node (at a inv on + 1) ≡ None =
-                  node-next (at a inv on) s (omega arith) (u a inv on) (stands-there a inv on [] (none-more a inv)).stands
-                  (ap (λ (k : ℕ). step a.built.kind (plain_of a.built) No (Some (u a inv on)) k)
-                  (byte-is a i.stops (of-search a inv on []) there.at b before is) ∙ dead) in
-                  dead-picked a.built.kind (so-far (at a inv on + 1)) refl (omega arith) (omega arith) gone a.built.kind
-                  (picked-next (at a inv on) s (omega arith) none-there [] (ap (matches_of a.built No) gone))
-
-      all : there.at ≡ i.filled
-      all = let w = within-buffer a inv on in let r = whole in omega arith
-
-      picks-none : pick a.built.kind (stream_from a.built bytes i.begun) ≡ None
-      picks-none =
-          let e = all in let c = inv.counted in
-          let end : length bytes ≡ at a inv on = omega arith in
-          ap (λ (k : ℕ). pick a.built.kind (record (stream_from a.built bytes i.begun) { high = k })) end
-          ∙ sym (ap (λ (bs : List ℕ). pick a.built.kind (record (stream_from a.built bs i.begun) { high = at a inv on })) (append-nil bytes))
-          ∙ none-there
-
-      pub holds-first : HoldsBack a chains i v inv there
-      holds-first = record {
-        ahead = onward a inv on;
-        all = all;
-        begun = begun-before a inv on;
-        settles = settles-standard inv there.at (onward a inv on) all standard picks-none;
-        ends = λ ended. picks-none;
-        stands = λ kept' rest none. record {
-          node = u a inv on;
-          there = (comes a inv on).there;
-          after = λ more last.
-              subst (λ (n : Option ChainRest). StandsAfter a.built.kind (plain_of a.built) (q a inv more) (pending a.built chains n)
-              (u a inv on) (at a inv on)) (sym none) (stands-there a inv on more last);
-          sound = subst (IsRestBefore chains i.begun) (sym none) tt;
-          near = subst (λ (n : Option ChainRest). IfSome n (λ r. kept' ≤ i.begun)) (sym none) tt;
-          first = λ standard'. record {
-            left = none;
-            none = sym (ap (λ (bs : List ℕ). pick a.built.kind (record (stream_from a.built bs i.begun) { high = at a inv on })) (append-nil bytes))
-                ∙ none-there;
-          };
-        };
-      }

@@ -9,7 +9,8 @@ use Rattle.ac_automaton.specs.Streams.{SettlesBy, streaming_by}
 use Rattle.ac_automaton.specs.declared.automaton.commits.ChainMatch.{ChainMatch}
 use Rattle.ac_automaton.specs.declared.automaton.onward.Given.{Given}
 use Rattle.ac_automaton.proofs.OnwardGives.{gives-first, gives-past}
-use Rattle.ac_automaton.proofs.StreamFirst.{holds-first, settles-first}
+use Rattle.ac_automaton.proofs.StreamFirst.{settles-first}
+use Rattle.ac_automaton.proofs.StreamSearched.{holds-first}
 use Rattle.ac_automaton.proofs.StreamPast.{holds-past, settles-past}
 use Rattle.ac_automaton.proofs.StreamReads.{by-kind, comes, HoldsBack, IsReadOn, Settles, u}
 use Rattle.ac_automaton.proofs.StreamRefusals.{past-on}

@@ -3,14 +3,15 @@ use Rattle.std.proofs.Common.{◌≡◌, ℕ, Bool, List, [], ◌∷◌, ◌++�
 use Rattle.std.proofs.lemmas.List.{take_all}
 use Rattle.std.proofs.lemmas.Grind.{common_steps}
 use Rattle.ac_automaton.specs.Util.{Built, FailsToReplace, HasWrittenFirst, MatchAnswer, Occurrence, Reading, replaced, replaced_from, ReplacesStream, Replacing, stream_result, StreamError}
-use Rattle.ac_automaton.specs.Prelude.{answer_of_exchange, error_in, FailsBy, HasExchangedFirst, Passing, PassesPiece, PassesText, ReplacesBy, Steps}
+use Rattle.ac_automaton.specs.Prelude.{answer_of_exchange, error_in, FailsBy, HasExchangedFirst, Passing, PassesPiece, ReplacesBy, Steps}
 use Rattle.ac_automaton.proofs.Gathering.{piece-begun, piece-failed, piece-join, piece-written}
+use Rattle.ac_automaton.specs.Exchanges.{Passes}
 
 -- an exchange by texts, which stay as they are
 module _ {E D : Type 0} (passing : Passing E D) (texts : E → List (List ℕ))
     (alike : (d e : E) → passing.without d ≡ passing.without e → texts d ≡ texts e) where
   abbrev exchanges : Occurrence → List ℕ → Replacing E D → Result (Unit {0}) StreamError → Replacing E D → Type 0
-  exchanges m slice s r t = PassesText passing (texts s.closure) m s r t
+  exchanges m slice s r t = Passes passing (slice_index_or (texts s.closure) m.pattern []) s r t
 
   -- a piece leaves the texts as they are
   piece-texts : (bytes : List ℕ) (s t : Replacing E D) (end : Option StreamError) → PassesPiece passing bytes s end t
@@ -43,7 +44,8 @@ module _ {E D : Type 0} (passing : Passing E D) (texts : E → List (List ℕ))
 
       by : (Steps passing exchanges haystack m.end ms turn.1 end t
           → PassesPiece passing (replaced_from haystack list m.end ms) turn.1 end t)
-          → (r : Result (Unit {0}) StreamError) → PassesText passing (texts at.closure) m at r turn.1
+          → (r : Result (Unit {0}) StreamError)
+          → Passes passing (slice_index_or (texts at.closure) m.pattern []) at r turn.1
           → MatchAnswer (answer_of_exchange r) (Steps passing exchanges haystack m.end ms turn.1 end t)
           (PassesPiece passing (drop m.end haystack) turn.1 end t) (λ failure. (end ≡ Some failure) × (t ≡ turn.1))
           → PassesPiece passing (replaced_from haystack list place (m ∷ ms)) s end t
@@ -51,7 +53,8 @@ module _ {E D : Type 0} (passing : Passing E D) (texts : E → List (List ℕ))
           piece-join passing (slice_range haystack place m.start ++ text) (replaced_from haystack list m.end ms) s turn.1 t
           end
           (piece-join passing (slice_range haystack place m.start) text s at turn.1 None turn.2.gap
-          (subst (λ (l : List (List ℕ)). PassesText passing l m at (Ok done) turn.1) same-there call))
+          (subst (λ (l : List (List ℕ)). Passes passing (slice_index_or l m.pattern []) at (Ok done) turn.1)
+          same-there call))
           (on answered)
       by on (Err e) call answered =
           subst (λ (f : Option StreamError). PassesPiece passing (replaced_from haystack list place (m ∷ ms)) s f t)
@@ -60,7 +63,8 @@ module _ {E D : Type 0} (passing : Passing E D) (texts : E → List (List ℕ))
           (sym answered.1)
           (piece-begun passing (slice_range haystack place m.start ++ text) (replaced_from haystack list m.end ms) s turn.1 e
           (piece-join passing (slice_range haystack place m.start) text s at turn.1 (Some e) turn.2.gap
-          (subst (λ (l : List (List ℕ)). PassesText passing l m at (Err e) turn.1) same-there call))))
+          (subst (λ (l : List (List ℕ)). Passes passing (slice_index_or l m.pattern []) at (Err e) turn.1) same-there
+          call))))
 
   module _ (ends : Bool) (built : Built) (reader new_reader : Reading) (list : List (List ℕ)) (s t : Replacing E D)
       (same : texts s.closure ≡ list) (begins : passing.held s.closure ≡ []) where

@@ -4,7 +4,7 @@ use Rattle.std.proofs.lemmas.Bool.{cases_lt}
 use Rattle.std.proofs.lemmas.Option.{slice_get_within}
 use Rattle.std.proofs.lemmas.Grind.{common_steps}
 use Rattle.ac_util.specs.Node.{Node, depth}
-use Rattle.ac_automaton.specs.Prelude.{all_matches, AreAllStates, DEAD, FIRST_INNER, HasState, IsState, IsTrie, IsTrieState, listed_within, MatchRest, TrieView, meaning_of, Represents, START, State, Takes, TakesFrom, Trie}
+use Rattle.ac_automaton.specs.Prelude.{all_matches, AreAllStates, DEAD, FIRST_INNER, HasState, IsState, IsTrie, IsTrieState, listed_within, MatchRest, TrieView, meaning_of, Represents, START, State, Takes, TakesMatch, Trie}
 use Rattle.ac_automaton.proofs.Follows.{represented}
 use Rattle.ac_automaton.proofs.ListsOf.{length-listed, none-linked}
 
@@ -79,12 +79,12 @@ module _ (trie : Trie) where
   listed s = listed_within trie.order trie.states s s
 
   pub takes-listed : (rest : MatchRest) (u : Node) (h : IsTrieState trie rest.state u) (r : Option (ℕ × MatchRest))
-      → TakesFrom (meaning trie rest.state u h) trie.states u rest.index r → Takes listed rest r
+      → TakesMatch (meaning trie rest.state u h) trie.states u rest.index r → Takes listed rest r
   takes-listed rest u h None none = ap (drop rest.index) (listed-matches trie rest.state u h) ∙ none
   takes-listed rest u h (Some first) taken = grind (arith, common_steps)
 
   pub takes-state : (rest : MatchRest) (u : Node) (h : IsTrieState trie rest.state u) (r : Option (ℕ × MatchRest))
-      → TakesFrom (meaning trie rest.state u h) trie.states u rest.index r
+      → TakesMatch (meaning trie rest.state u h) trie.states u rest.index r
       → IfSome r (λ first. IsState (IsTrieState trie) first.1.state)
   takes-state rest u h None none = tt
   takes-state rest u h (Some first) taken = grind (arith, common_steps)

@@ -4,11 +4,12 @@ use Rattle.std.proofs.lemmas.List.{get_or_past, length-map, length_push}
 use Rattle.std.proofs.lemmas.Option.{slice_get_within}
 use Rattle.std.proofs.lemmas.Grind.{common_steps}
 use Rattle.ac_automaton.specs.Util.{MatchKind, Node, pattern_of, plain, plain_byte}
-use Rattle.ac_automaton.specs.Prelude.{ANCHORED_START, AreStates, byte_at, FIRST_INNER, first_states, grown_view, Growth, HasRoot, HasBranched, IsGrown, IsOrder, IsTrie, Keyed, TrieView, nodes_of, numbers, NumbersNodes, QueuedState, Represents, Sorted, START, State, too_many_states, Transition, trie_of, Waits, word}
+use Rattle.ac_automaton.specs.Prelude.{ANCHORED_START, AreStates, byte_at, FIRST_INNER, grown_view, Growth, HasRoot, HasBranched, IsGrown, IsOrder, IsTrie, Keyed, TrieView, nodes_of, numbers, NumbersNodes, QueuedState, Represents, Sorted, START, State, too_many_states, Transition, trie_of, Waits, word}
 use Rattle.ac_automaton.specs.Growths.{IsQueueReady}
 use Rattle.ac_automaton.proofs.Grown.{AreStates-push, IsGrown-later, nodes-inner, nodes-rising}
 use Rattle.ac_automaton.proofs.ListsOf.{listed_within-matches}
 use Rattle.ac_automaton.proofs.StateCount.{numbers-nodes, too_many_states-none}
+use Rattle.ac_automaton.specs.Tries.{dead_state}
 
 -- the state of the unanchored start is that of the anchored start too
 pub Represents-beside : (g : TrieView) (v : Node) (t : State) → Represents g START v t
@@ -41,7 +42,7 @@ module _ (kind : MatchKind) (ignores_case : Bool) (patterns : List (List ℕ)) (
   pub start-ready : (p : QueuedState) → IsOrder kind patterns sorted
       → ((place depth b : ℕ) → byte_at sorted depth place ≡ Some b → plain_byte ignores_case b ≡ b)
       → Waits kind patterns sorted [] START p → p.depth ≡ 0
-      → IsQueueReady kind ignores_case patterns sorted first_states [] [] p
+      → IsQueueReady kind ignores_case patterns sorted (dead_state ∷ dead_state ∷ []) [] [] p
   start-ready p order settled waits depth = grind (arith, common_steps)
 
   -- the states up to those of the queue before `at` are whole
@@ -58,14 +59,15 @@ module _ (kind : MatchKind) (ignores_case : Bool) (patterns : List (List ℕ)) (
   started : (p : QueuedState) (t : State) (transitions : List Transition) (queue : List QueuedState)
       → IsOrder kind patterns sorted
       → ((place depth b : ℕ) → byte_at sorted depth place ≡ Some b → plain_byte ignores_case b ≡ b) → p.depth ≡ 0
-      → HasBranched kind ignores_case patterns sorted first_states [] p t transitions queue
-      → IsGoing ((first_states ++ t ∷ []) ++ t ∷ []) transitions queue 0
+      → HasBranched kind ignores_case patterns sorted (dead_state ∷ dead_state ∷ []) [] p t transitions queue
+      → IsGoing (((dead_state ∷ dead_state ∷ []) ++ t ∷ []) ++ t ∷ []) transitions queue 0
   started p t transitions queue order settled depth h = record {
     order = order;
     settled = settled;
     grown = IsGrown-later (omega arith) (omega arith) h.grown;
     meant =
-        AreStates-push (grown_view kind ignores_case patterns sorted transitions queue) (first_states ++ t ∷ [])
+        AreStates-push (grown_view kind ignores_case patterns sorted transitions queue) ((dead_state ∷ dead_state
+        ∷ []) ++ t ∷ [])
         (Some []) t once refl
         (Represents-beside (grown_view kind ignores_case patterns sorted transitions queue) (Some []) t start);
     count = refl;
@@ -75,12 +77,13 @@ module _ (kind : MatchKind) (ignores_case : Bool) (patterns : List (List ℕ)) (
       start : Represents (grown_view kind ignores_case patterns sorted transitions queue) START (Some []) t
       start = search rules
 
-      once : AreStates (grown_view kind ignores_case patterns sorted transitions queue) (first_states ++ t ∷ [])
+      once : AreStates (grown_view kind ignores_case patterns sorted transitions queue) ((dead_state ∷ dead_state
+          ∷ []) ++ t ∷ [])
       once = search (rules, AreStates-push, start)
 
   -- with the start at both its numbers a trie goes on to grow
   pub start-going : (first : List State) (none : List QueuedState) (p : QueuedState) (t : State)
-      (transitions : List Transition) (queue : List QueuedState) → first ≡ first_states → none ≡ []
+      (transitions : List Transition) (queue : List QueuedState) → first ≡ (dead_state ∷ dead_state ∷ []) → none ≡ []
       → IsOrder kind patterns sorted
       → ((place depth b : ℕ) → byte_at sorted depth place ≡ Some b → plain_byte ignores_case b ≡ b) → p.depth ≡ 0
       → HasBranched kind ignores_case patterns sorted first none p t transitions queue
@@ -88,7 +91,8 @@ module _ (kind : MatchKind) (ignores_case : Bool) (patterns : List (List ℕ)) (
   start-going first none p t transitions queue is empty order settled depth h =
       subst (λ (ss : List State). IsGoing ((ss ++ t ∷ []) ++ t ∷ []) transitions queue 0) (sym is)
       (started p t transitions queue order settled depth
-      (subst (λ (q : List QueuedState). HasBranched kind ignores_case patterns sorted first_states q p t transitions
+      (subst (λ (q : List QueuedState). HasBranched kind ignores_case patterns sorted (dead_state ∷ dead_state
+      ∷ []) q p t transitions
       queue)
       empty
       (subst (λ (ss : List State). HasBranched kind ignores_case patterns sorted ss none p t transitions queue) is h)))

@@ -9,7 +9,6 @@ use Rattle.ac_util.specs.declared.search.Anchored.{Anchored}
 use Rattle.ac_automaton.specs.Util.{AnswersStream, AnswersUnless, AnswersWhole, Built, FailsToReplace, FailsToReplaceWith, Reading, ReplacesStream, ReplacesStreamWith, Writing, exchanged, exchanged_in_text, InputView, IsStreamRefused, find_refusal, find_result, MakesSteps, MatchError, Occurrence, overlapping_iter_refusal, overlapping_refusal, replace_refusal, replaced, ReplaceError, search_in, start_refusal, StepsLead, stream_refusal, StreamError}
 use Rattle.ac_automaton.specs.declared.automaton.overlap.OverlappingState.{OverlappingState}
 use Rattle.ac_automaton.specs.Automata.{AutomatonView}
-use Rattle.ac_automaton.specs.Finds.{Finding, finding_of}
 use Rattle.ac_automaton.specs.Iterators.{Walking, initial_walk}
 use Rattle.ac_automaton.specs.Overlaps.{GivesNext, IsPlaced, Overlapping, initial_listing}
 
@@ -18,10 +17,6 @@ abbrev pub BeginsBy : {X : Type 0} → AutomatonView → Anchored → (X → Typ
 BeginsBy a anchored Begun result =
     MatchResult result (λ x. (start_refusal a.built.start_kind anchored ≡ None) × Begun x)
     (λ e. start_refusal a.built.start_kind anchored ≡ Some e)
-
--- a finder of the automaton, with `earliest` or without
-abbrev pub BeginsFinder : AutomatonView → Anchored → Bool → Result Finding MatchError → Type 0
-BeginsFinder a anchored earliest result = BeginsBy a anchored (λ f. f ≡ finding_of a anchored earliest) result
 
 -- what a find answers
 abbrev pub AnswersFind : Built → InputView → Result (Option Occurrence) MatchError → Type 0
@@ -99,16 +94,10 @@ module _ {F Z : Type 0} (closures : Calling F (Vec ℕ Z) Bool) where
   abbrev pub ExchangesBytes : Built → List ℕ → F → Vec ℕ Z → Vec ℕ Z → Result (Unit {0}) ReplaceError → Type 0
   ExchangesBytes = MakesStepsBy closures (λ d. d.items) exchanged
 
-  abbrev pub StepsInBytes : {E : Type 0} → Built → List ℕ → F → Vec ℕ Z → Vec ℕ Z → Result (Unit {0}) E → Type 0
-  StepsInBytes = StepsBy closures (λ d. d.items) exchanged
-
 -- and in a text, of which no match is exchanged that cuts a character
 module _ {F Z : Type 0} (closures : Calling F (String Z) Bool) where
   abbrev pub ExchangesText : Built → List ℕ → F → String Z → String Z → Result (Unit {0}) ReplaceError → Type 0
   ExchangesText = MakesStepsBy closures string_bytes exchanged_in_text
-
-  abbrev pub StepsInText : {E : Type 0} → Built → List ℕ → F → String Z → String Z → Result (Unit {0}) E → Type 0
-  StepsInText = StepsBy closures string_bytes exchanged_in_text
 
 -- what is seen of a reader and of a writer, and what is replaced between them
 module _ {R W : Type 0} (ends : Bool) (reads : R → Reading) (writes : W → Writing) where

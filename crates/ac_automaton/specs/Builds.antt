@@ -52,10 +52,6 @@ refusal_or (Some e) later = Some e
 abbrev pub IsRefused : Option BuildError → BuildError → Type 0
 IsRefused own_refusal e = (e ≡ Memory) ⊎ (own_refusal ≡ Some e)
 
--- the same where its own limit comes first, whether there is memory or not
-abbrev pub IsRefusedExactly : Option BuildError → BuildError → Type 0
-IsRefusedExactly own_refusal e = MatchOption own_refusal (e ≡ Memory) (λ refusal. e ≡ refusal)
-
 -- why a build over a list of patterns is refused: a limit of the list comes first, whether there is memory or not
 abbrev pub RefusesBy : Option BuildError → List (List ℕ) → BuildError → Type 0
 RefusesBy own_refusal patterns e =
@@ -74,7 +70,8 @@ AnswersBuild IsBuilt own_refusal patterns result = MatchResult result (IsBuilt p
 -- an engine was made from another, or is refused by a limit of its own, which comes first
 abbrev pub AnswersMaking : {X : Type 0} → (X → Type 0) → Option BuildError → Result X BuildError → Type 0
 AnswersMaking IsMade own_refusal result =
-    MatchResult result (λ made. IsMade made × (own_refusal ≡ None)) (IsRefusedExactly own_refusal)
+    MatchResult result (λ made. IsMade made × (own_refusal ≡ None))
+    (λ e. MatchOption own_refusal (e ≡ Memory) (λ refusal. e ≡ refusal))
 
 -- such a build of a noncontiguous NFA by these settings
 abbrev pub BuildsNoncontiguous : EngineSettings → List (List ℕ) → Result Trie BuildError → Type 0

@@ -14,14 +14,14 @@ abbrev pub chain_at : List (List ChainMatch) → ℕ → List ChainMatch
 chain_at chains number = slice_index_or chains number []
 
 -- the match of a link
-abbrev pub match_of : Link → ChainMatch
-match_of link = record { pattern = link.pattern; end = link.end }
+abbrev pub linked_match : Link → ChainMatch
+linked_match link = record { pattern = link.pattern; end = link.end }
 
 -- these chains, and then those of the links: the chain of a link is that before it, and its match
 unfoldable pub chains_after : List (List ChainMatch) → List Link → List (List ChainMatch)
 chains_after chains [] = chains
 chains_after chains (link ∷ links) =
-    chains_after (chains ++ (chain_at chains link.before ++ match_of link ∷ []) ∷ []) links
+    chains_after (chains ++ (chain_at chains link.before ++ linked_match link ∷ []) ∷ []) links
 
 abbrev pub chains_of : List Link → List (List ChainMatch)
 chains_of links = chains_after ([] ∷ []) links
@@ -36,7 +36,7 @@ pub record IsFront (front all : List ChainMatch) : Type 0 where
 pub record IsLink (chains : List (List ChainMatch)) (place : ℕ) (link : Link) : Type 0 where
   pub before : link.before ≤ place
   pub jump : link.jump ≤ place
-  pub grows : chain_at chains (place + 1) ≡ chain_at chains link.before ++ match_of link ∷ []
+  pub grows : chain_at chains (place + 1) ≡ chain_at chains link.before ++ linked_match link ∷ []
   pub count : link.count ≡ length (chain_at chains (place + 1))
   pub few : link.count ≤ place + 1
   pub skips : IsFront (chain_at chains link.jump) (chain_at chains (place + 1))

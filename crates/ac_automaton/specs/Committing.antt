@@ -23,10 +23,6 @@ pub record MayCommit (g : TrieView) (states : List State) : Type 0 where
 abbrev pub ending_by : List (List ℕ) → ChainMatch → Occurrence
 ending_by patterns m = occurrence m.pattern (m.end - length (pattern_of patterns m.pattern)) m.end
 
--- where the matches of a chain stand
-abbrev pub chain_by : List (List ℕ) → List (List ChainMatch) → ℕ → List Occurrence
-chain_by patterns chains number = map (ending_by patterns) (chain_at chains number)
-
 -- the commit of a node's string
 pub record HasCommit (g : TrieView) (chains : List (List ChainMatch)) (u : List ℕ) (commit : Commit)
     : Type 0 where
@@ -37,7 +33,8 @@ pub record HasCommit (g : TrieView) (chains : List (List ChainMatch)) (u : List 
   pub matches : All (IsChainMatch g.patterns commit.rest) (chain_at chains commit.chain)
   pub node : List ℕ
   pub named : IsNumbered g.nodes commit.next node
-  pub gives : NodeCommits g.kind g.patterns u Anything picked (chain_by g.patterns chains commit.chain) node
+  pub gives : NodeCommits g.kind g.patterns u Anything picked
+      (map (ending_by g.patterns) (chain_at chains commit.chain)) node
 
 -- what was made: for each state the index of its commit and one more, or 0; the commits; and their chains
 pub record Made : Type 0 where
@@ -129,8 +126,8 @@ pub record IsCommitAt (g : TrieView) (m : Made) (s : ℕ) (u : List ℕ) (commit
   pub none : NeedsNone g m.index s u
 
 -- a state has this commit, or still needs one
-abbrev pub Holds : {Z : Type 0} → Making Z → ℕ → Option Commit → Type 0
-Holds making s result = (at : HasString making s)
+abbrev pub HoldsCommit : {Z : Type 0} → Making Z → ℕ → Option Commit → Type 0
+HoldsCommit making s result = (at : HasString making s)
     → MatchOption result (NeedsOne at.view (made_of making).index s at.string)
     (IsCommitAt at.view (made_of making) s at.string)
 

@@ -8,11 +8,10 @@ use Rattle.ac_automaton.specs.declared.automaton.onward.Core.{Core}
 use Rattle.ac_automaton.specs.declared.automaton.onward.Given.{Given}
 use Rattle.ac_automaton.specs.declared.automaton.onward.Position.{Position}
 use Rattle.ac_automaton.specs.declared.automaton.scan.Cursor.{Cursor}
-use Rattle.ac_automaton.specs.declared.automaton.scan.Scanner.{Scanner}
 use Rattle.ac_automaton.specs.declared.automaton.skip.SkipBudget.{SkipBudget}
 use Rattle.ac_automaton.specs.Automata.{AutomatonView, plain_of}
 use Rattle.ac_automaton.specs.Commits.{AreCommits, chain_at, CommitsView, ending_in, reads_on}
-use Rattle.ac_automaton.specs.Finds.{between, place_of}
+use Rattle.ac_automaton.specs.Finds.{place_of}
 use Rattle.ac_util.specs.Prefilters.Skip.{Needle}
 use Rattle.ac_util.specs.Commits.{IsPickIn, Anything, NodeCommits}
 use Rattle.ac_automaton.specs.Reads.{HasReadOn, IsAtStart, MayRead, Point, ReadsOn}
@@ -108,17 +107,13 @@ spot here tape counts = record { here = here; bytes = tape.bytes; work = work_of
 abbrev pub point_of : Spot → Point
 point_of p = record { bytes = p.bytes; cursor = p.here.cursor; hand = p.here.byte; work = p.work }
 
--- the match that is given where a search stands, and what of a chain is to come after it
-abbrev pub match_given : Built → ℕ → Given → Occurrence
-match_given built at given = place_of built (at - given.rest) given.pattern
-
 abbrev pub rest_given : ℕ → Given → Option ChainRest
 rest_given at given = option_map (λ number. record { chain = number; index = 0; base = at - given.rest }) given.chain
 
 -- a search gives this where it stands, and goes on from there; or it gives none, and stays
 abbrev pub Leaves : Built → Position → Option Given → Option Occurrence → Position → Type 0
 Leaves built old None found new = (found ≡ None) × (new ≡ old)
-Leaves built old (Some given) found new = (found ≡ Some (match_given built old.cursor.at given))
+Leaves built old (Some given) found new = (found ≡ Some (place_of built (old.cursor.at - given.rest) given.pattern))
     × (new ≡ record old {
       cursor = record { state = given.next; at = old.cursor.at };
       rest = rest_given old.cursor.at given;
@@ -139,10 +134,6 @@ begun_by k span budget = record {
   budget = budget;
   end = span.end;
 }
-
--- a scanner of a search that reads up to an end, and stops at a match or not
-abbrev pub scanner_to : {A M : Type 0} → Core A M → Bool → ℕ → Scanner A M
-scanner_to k stops end = record { automaton = k.automaton; anchored = No; stops = stops; span = between 0 end }
 
 module _ {A M : Type 0} (seen : A → AutomatonView) (k : Core A M) where
   abbrev pub view : AutomatonView

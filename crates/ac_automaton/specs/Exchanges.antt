@@ -1,5 +1,5 @@
 -- What the replacement of a stream gathers before it writes, and what it has done so far.
-use Rattle.std.specs.Prelude.{◌≡◌, ℕ, List, [], ◌++◌, MatchResult, Option, None, Result, Some, ◌⊎◌, ◌<◌, ◌≤◌, Bool, Ok, Err, length, slice_index_or, take, drop}
+use Rattle.std.specs.Prelude.{◌≡◌, ℕ, List, [], ◌++◌, MatchResult, Option, None, Result, Some, ◌⊎◌, ◌<◌, ◌≤◌, Bool, Ok, Err, length, take, drop}
 use Rattle.ac_automaton.specs.Util.{error_of, Replacing, StreamError, WriteError, WritesAll, WritesUntilFailure, Writing, Answer, Built, Calls, Fails, FailsToRead, Continues, IsNear, IsSettled, IsSettledBefore, IsSettledBy, Occurrence, Reading, ReadsAll, ReplacementSteps, StartFrom, stream_result, usize_max}
 use Rattle.ac_automaton.specs.declared.automaton.stream_replace.ByTexts.{ByTexts}
 use Rattle.std.specs.Borrow.{Bor, MutBor}
@@ -65,11 +65,6 @@ beside exchange writer = record { closure = exchange; destination = writer }
 -- bytes were passed on, or that has failed
 abbrev pub Passes : {E D : Type 0} → Passing E D → List ℕ → Replacing E D → Result (Unit {0}) StreamError → Replacing E D → Type 0
 Passes passing bytes s r t = PassesPiece passing bytes s (error_in r) t
-
--- the text of the match's pattern was passed on, or that has failed
-abbrev pub PassesText : {E D : Type 0} → Passing E D → List (List ℕ) → Occurrence → Replacing E D
-    → Result (Unit {0}) StreamError → Replacing E D → Type 0
-PassesText passing texts m s r t = Passes passing (slice_index_or texts m.pattern []) s r t
 
 -- an exchange may be called with each match of the patterns of what was built
 abbrev pub AcceptsMatches : {E : Type 0} → (E → Occurrence → Type 0) → Built → E → Type 0

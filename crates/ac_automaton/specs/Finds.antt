@@ -100,15 +100,11 @@ FindsAt v cursor found =
     (u : Node) → v.scan.stands cursor.state u → FitsIn v.scan.anchored u v.span.start cursor.at
     → found ≡ found_at v.scan.built v.scan.anchored u cursor.at
 
--- a find that has come to a node has its answer in the last match found: nothing is left to read, nothing more is
--- found, or it stops at the first match and has one
-abbrev pub IsAnswered : Bool → ℕ → ℕ → Node → Option Occurrence → Type 0
-IsAnswered stops end at u last = (end ≤ at) ⊎ ((u ≡ None) ⊎ ((stops ≡ true) × (last ≢ None)))
-
 -- a test tells whether each node for which a scanner's state stands has it
 abbrev pub TellsAnswer : ScannerView → Bool → Cursor → Option Occurrence → Bool → Type 0
 TellsAnswer v stops cursor last result =
-    (u : Node) → v.scan.stands cursor.state u → IsTrue result ↔ IsAnswered stops v.span.end cursor.at u last
+    (u : Node) → v.scan.stands cursor.state u → IsTrue result
+    ↔ ((v.span.end ≤ cursor.at) ⊎ ((u ≡ None) ⊎ ((stops ≡ true) × (last ≢ None))))
 
 -- the span from one offset to another
 abbrev pub between : ℕ → ℕ → Span

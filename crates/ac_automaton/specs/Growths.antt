@@ -17,10 +17,6 @@ use Rattle.ac_automaton.specs.Builds.{IsRefused, too_many_states}
 use Rattle.ac_automaton.specs.Sorted.{AreSorted, Keyed, IsOrder, Sorted, byte_at, key_at, numbers}
 use Rattle.ac_automaton.specs.Tries.{TrieView, AreStates, IsTrie, Links, Represents, dead_state, fallback, trie_of}
 
--- the dead state, and the one that no search reaches
-abbrev pub first_states : List State
-first_states = dead_state ∷ dead_state ∷ []
-
 -- the string of a queued state: the bytes of its first pattern up to its depth
 abbrev pub word : List Keyed → QueuedState → List ℕ
 word sorted p = take p.depth (key_at sorted p.from)
@@ -200,7 +196,7 @@ pub record LinkIsDue (g : TrieView) (s : ℕ) (u : List ℕ) (fail : ℕ) : Type
 -- a trie of the patterns begins to grow: with its first two states, and nothing in the queue
 pub record HasRoot {Z : Type 0} (ignores_case : Bool) (texts : List (List ℕ)) (growth : Growth Z) : Type 0 where
   pub sorts : AreSorted growth.kind ignores_case texts growth.sorted
-  pub two : growth.states.items ≡ first_states
+  pub two : growth.states.items ≡ (dead_state ∷ dead_state ∷ [])
   pub no_transitions : growth.transitions.items ≡ []
   pub no_queue : growth.queue.items ≡ []
 
@@ -223,12 +219,6 @@ BuildsLists texts ignores_case kind result =
     (λ lists. IsWhole texts ignores_case kind lists.order.items lists.transitions.items lists.states.items)
     (IsRefused (too_many_states kind (map (plain ignores_case) texts)))
 
--- they are made from a trie that begins to grow, whatever its patterns are
-abbrev pub GrowsWhole : {Y Z : Type 0} → Growth Y → Result (TrieLists Z) BuildError → Type 0
-GrowsWhole growth result =
-    (ignores_case : Bool) (texts : List (List ℕ)) → HasRoot ignores_case texts growth
-    → BuildsLists texts ignores_case growth.kind result
-
 -- a growing trie that may branch at a queued state does so, or is refused as its lists are
 abbrev pub BranchesAt : {Z : Type 0} → Growth Z → QueuedState → Result State BuildError → Growth Z → Type 0
 BranchesAt growth queued result new_growth =
@@ -242,12 +232,6 @@ PushesState growth byte queued result new_growth =
     (λ done. HasPushed growth.sorted.ignores_case byte queued growth.transitions.items growth.queue.items
     new_growth.transitions.items new_growth.queue.items)
     (IsNotPushed growth.queue.items)
-
--- the start waits for its children, of patterns in order
-abbrev pub WaitsAtStart : {Z : Type 0} → Growth Z → QueuedState → Type 0
-WaitsAtStart growth start =
-    (patterns : List (List ℕ)) → IsOrder growth.kind patterns growth.sorted.patterns
-    → Waits growth.kind patterns growth.sorted.patterns [] START start
 
 -- the number stands for the failure target of a queued state's child by a byte
 abbrev pub IsChildFailure : {Z : Type 0} → Growth Z → QueuedState → ℕ → ℕ → ℕ → Type 0

@@ -8,7 +8,7 @@ use Rattle.ac_automaton.specs.declared.automaton.onward.Position.{Position}
 use Rattle.ac_automaton.specs.declared.automaton.scan.Cursor.{Cursor}
 use Rattle.ac_automaton.specs.Automata.{AutomatonView, plain_of}
 use Rattle.ac_automaton.specs.Finds.{Finding, finding_of}
-use Rattle.ac_automaton.specs.Iterators.{IsByFinds, IsPaid, reads_past_by, walking_of}
+use Rattle.ac_automaton.specs.Iterators.{IsByFinds, IsPaid, walking_of}
 use Rattle.ac_util.specs.Commits.{StandsAfter}
 use Rattle.ac_automaton.specs.Reads.{in_hand}
 use Rattle.ac_automaton.specs.Scans.{search_of, Work, work_of}
@@ -99,8 +99,3 @@ pub record BeginsPast {A M : Type 0} (seen : A → AutomatonView) (finding : Fin
   pub ends : o.here.end ≡ span.end
   pub byte : o.here.byte ≡ None
   pub rest : o.here.rest ≡ None
-
--- a walk of a span begins so where one by these finds reads on past its matches
-abbrev pub BeginsOnward : {A M : Type 0} → (A → AutomatonView) → Finding → Span → Option (Onward A M) → Type 0
-BeginsOnward seen finding span result =
-    MatchOption result (reads_past_by finding.picking.order finding.anchored finding.built.patterns ≡ false) (BeginsPast seen finding span)

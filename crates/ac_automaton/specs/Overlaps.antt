@@ -81,10 +81,6 @@ pub record HasMoved (s : Scan) (t : ScanText) (reached : Reached) (found : Optio
   pub ends : IfSome found (λ m. m.end ≡ new_reached.at)
   pub whole : found ≡ None → (new_reached.at ≡ t.end) ⊎ (node s t new_reached.at ≡ None)
 
--- a listing of some bytes has come to here
-abbrev pub HasComeTo : ScannerView → Reached → Type 0
-HasComeTo v reached = (bytes : List ℕ) × IsListed v.scan (in_memory bytes v.span) reached
-
 -- the next match of the current state was given, or there is none, whichever bytes were listed
 abbrev pub TakesDue : ScannerView → Reached → Option Occurrence → Reached → Type 0
 TakesDue v reached found new_reached =

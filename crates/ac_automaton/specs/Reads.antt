@@ -87,10 +87,6 @@ pub record ReadsOn (s : Scan) (end : ℕ) (p q : Point) : Type 0 where
   pub hand : IfSome q.hand (λ b. (q.cursor.at < end) × (b ≡ slice_index p.bytes q.cursor.at))
   pub comes : (v : List ℕ) → s.stands p.cursor.state (Some v) → Comes s p v q
 
--- by a byte at least, where one is left; or to one that leads to the dead node
-abbrev pub MovesOn : ℕ → Point → Point → Type 0
-MovesOn end p q = p.cursor.at < end → q.hand ≡ None → p.cursor.at < q.cursor.at
-
 -- a scan is to stop at a state: it stops at a match, and the state has some
 abbrev pub StopsAt : Scan → ℕ → Type 0
 StopsAt s state = (s.stops ≡ true) × (s.listed state ≢ [])
@@ -126,15 +122,11 @@ pub record Tries (s : Scan) (p : Point) (byte next : ℕ) (work : Work) : Type 0
 abbrev pub hand_of : Option Dead → Option ℕ
 hand_of dead = option_map (λ (d : Dead). d.byte) dead
 
--- past that byte it is dead
-abbrev pub IsDeadIn : Scan → Cursor → Option Dead → Type 0
-IsDeadIn s cursor dead = IfSome dead (λ d. (d.next.at ≡ cursor.at + 1) × s.stands d.next.state None)
-
 -- a scan has read on within an end: by a byte at least, where one is left, or to one that leads to the dead state, which it answers
 pub record ReadsFurther (s : Scan) (end : ℕ) (p : Point) (dead : Option Dead) (q : Point) : Type 0 where
   pub on : ReadsOn s end p q
-  pub moved : MovesOn end p q
-  pub gone : IsDeadIn s q.cursor dead
+  pub moved : p.cursor.at < end → q.hand ≡ None → p.cursor.at < q.cursor.at
+  pub gone : IfSome dead (λ d. (d.next.at ≡ q.cursor.at + 1) × s.stands d.next.state None)
 
 -- and as far as it reads
 pub record ReadsToStop (s : Scan) (end : ℕ) (p : Point) (dead : Option Dead) (q : Point) : Type 0 where
@@ -184,10 +176,6 @@ module _ {A M : Type 0} (seen : A → AutomatonView) (s : Scanner A M) where
   abbrev pub MayScan : Point → Type 0
   MayScan p = MayRead (scanner seen s).scan s.span.end p
 
-  -- it tries the byte at a point, and answers that and the state to which it leads
-  abbrev pub TriesAt : Point → ℕ × ℕ → Work → Type 0
-  TriesAt p result work = Tries (scanner seen s).scan p result.0 result.1 work
-
   -- it reads on by a piece, and answers the byte that leads to the dead state
   abbrev pub Moves : Point → Option Dead → Point → Type 0
   Moves p dead q = ReadsFurther (scanner seen s).scan s.span.end p dead (record q { hand = hand_of dead })
@@ -199,7 +187,3 @@ module _ {A M : Type 0} (seen : A → AutomatonView) (s : Scanner A M) where
   -- or to its start
   abbrev pub Seeks : Point → ToStart → Point → Type 0
   Seeks p stop q = ReadsToStart (scanner seen s).scan s.span.end p stop (record q { hand = hand_at stop })
-
-  -- it reads on by a byte at least, and passes over no match
-  abbrev pub GoesAhead : Point → Point → Type 0
-  GoesAhead p q = Advances (scanner seen s) p q

@@ -181,13 +181,10 @@ pub record MayAdvance (v : ScannerView) (tape : Taped) (cursor : Cursor) : Type 
   pub inside : v.span.end ≤ length tape.bytes
   pub unread : tape.place ≤ cursor.at
 
--- nothing is left to read up to an end, or nothing more is found
-abbrev pub IsOver : ℕ → ℕ → Node → Type 0
-IsOver end at u = (end ≤ at) ⊎ (u ≡ None)
-
 -- a test tells whether that is so of a scanner
 abbrev pub TellsOver : ScannerView → Cursor → Bool → Type 0
-TellsOver v cursor result = (u : Node) → v.scan.stands cursor.state u → IsTrue result ↔ IsOver v.span.end cursor.at u
+TellsOver v cursor result = (u : Node) → v.scan.stands cursor.state u → IsTrue result
+    ↔ ((v.span.end ≤ cursor.at) ⊎ (u ≡ None))
 
 -- how an automaton skips that was built to have a prefilter, or not
 abbrev pub skip_with : Bool → Built → Option Skip

@@ -1,8 +1,8 @@
 -- The patterns that take part in ascending order of their bytes, so that those with one prefix stand side by
 -- side.
-use Rattle.std.specs.Prelude.{◌≡◌, ◌≢◌, ◌↔◌, ◌⊎◌, ℕ, zero, suc, ◌+◌, ◌-◌, ◌*◌, ◌<◌, ◌≤◌, Bool, false, true, nat_eq, List, [], Option, map, length, slice_get, slice_index_or, All, AllPairs, Contains}
+use Rattle.std.specs.Prelude.{◌≡◌, ◌↔◌, ◌⊎◌, ℕ, zero, suc, ◌+◌, ◌-◌, ◌*◌, ◌<◌, ◌≤◌, Bool, true, nat_eq, List, [], Option, map, length, slice_get, slice_index_or, All, AllPairs, Contains}
 use Rattle.std.specs.Cmp.Lexicographic.{slice_cmp}
-use Rattle.std.specs.List.{AllWithin, HoldsAt, range_with_len, starts_with}
+use Rattle.std.specs.List.{HoldsAt, range_with_len, starts_with}
 use Rattle.std.specs.Ordering.{nat_cmp, ordering_then}
 use Rattle.std.specs.declared.cmp.Ordering.{Ordering}
 use Rattle.std.specs.declared.cmp.Ordering.TheVariants.{Less}
@@ -53,10 +53,6 @@ pub record IsHead (head : ℕ) (u : List ℕ) : Type 0 where
   pub value : head ≡ head_of head_len u
   pub small : (k : ℕ) → k < head_len → slice_index_or u k 0 < 256
 
--- a pattern has the head of its plain bytes
-abbrev pub HasHead : Bool → SortedPattern → Type 0
-HasHead ignores_case m = IsHead m.head (plain ignores_case m.bytes.now)
-
 -- how two patterns compare by their plain bytes, and then by number
 abbrev pub compared_by_bytes : Bool → SortedPattern → SortedPattern → Ordering
 compared_by_bytes ignores_case a b =
@@ -91,26 +87,11 @@ pub record AreSorted (kind : MatchKind) (ignores_case : Bool) (texts : List (Lis
   pub fold_is : sorted.ignores_case ≡ ignores_case
   pub order : IsOrder kind (map (plain ignores_case) texts) sorted.patterns
 
--- sorted patterns become those that take part under LeftmostFirst, where all of them were there
-abbrev pub KeepsParticipants : Sorted → Sorted → Type 0
-KeepsParticipants old new =
-    (ignores_case : Bool) (texts : List (List ℕ)) → AreSorted Standard ignores_case texts old
-    → AreSorted LeftmostFirst ignores_case texts new
-
 -- the same of their list
 abbrev pub ListsParticipants : Bool → List SortedPattern → List SortedPattern → Type 0
 ListsParticipants ignores_case old new =
     (patterns : List (List ℕ)) → IsOrder Standard patterns (keyed ignores_case old)
     → IsOrder LeftmostFirst patterns (keyed ignores_case new)
-
--- from one index up to another the patterns have the same byte at a depth, or none
-abbrev pub ShareByte : List Keyed → ℕ → ℕ → ℕ → Type 0
-ShareByte sorted depth from to =
-    (k : ℕ) → from ≤ k → k < to → byte_at sorted depth k ≡ byte_at sorted depth from
-
--- those at two indices have not
-abbrev pub DifferAt : List Keyed → ℕ → ℕ → ℕ → Type 0
-DifferAt sorted depth j k = byte_at sorted depth j ≢ byte_at sorted depth k
 
 -- no pattern has more than GREATEST bytes
 abbrev pub AreShort : List SortedPattern → Type 0
@@ -120,18 +101,8 @@ AreShort sorted = All (λ p. length p.bytes.now ≤ GREATEST) sorted
 abbrev pub AreNumbered : List SortedPattern → Type 0
 AreNumbered sorted = All (λ p. p.number ≤ GREATEST) sorted
 
--- patterns were dropped from the end of a stack, and none of them is a prefix of this one
-abbrev pub DropsNoPrefix : Bool → SortedPattern → List SortedPattern → List SortedPattern → Type 0
-DropsNoPrefix ignores_case pattern old new =
-    AllWithin (λ p. is_prefix ignores_case pattern p ≡ false) old (length new) (length old)
-
 -- the last of a stack is a prefix of this one, and comes earlier in the list
 abbrev pub HasShadow : Bool → SortedPattern → List SortedPattern → Type 0
 HasShadow ignores_case pattern prefixes =
     (0 < length prefixes)
     × HoldsAt (λ p. (is_prefix ignores_case pattern p ≡ true) × (p.number < pattern.number)) prefixes (length prefixes - 1)
-
--- the last of a stack, if there is one, comes no earlier
-abbrev pub EndsNoEarlier : SortedPattern → List SortedPattern → Type 0
-EndsNoEarlier pattern prefixes =
-    0 < length prefixes → HoldsAt (λ p. pattern.number ≤ p.number) prefixes (length prefixes - 1)

@@ -198,11 +198,6 @@ pub record HasGivenLast (old new : Streaming) : Type 0 where
   pub given : HasGivenSettled old (record new { front = old.front })
   pub cleared : new.front ≡ new.kept
 
--- once the end was met there is nothing to read: the next match was given, or there is none any more
-abbrev pub GivesLast : Streaming → Option (Result Occurrence StreamError) → Streaming → Type 0
-GivesLast old result new =
-    MatchOption result (HasGivenLast old new) (λ item. MatchResult item (λ m. GivesMatch old m new) (λ e. ⊥))
-
 -- as far as which offset nothing is kept, all where the end was met
 abbrev pub kept_from : Phase → ℕ → ℕ → ℕ
 kept_from Open place all = place
@@ -241,10 +236,6 @@ pub record HasGivenFirst (phase : Phase) (built : Built) (bytes : List ℕ) (giv
   pub last : Option ℕ
   pub walks : (more : List ℕ) → (phase ≡ Ended → more ≡ [])
       → stream_result built (bytes ++ more) ≡ matches ++ walk_after built.kind (stream_from built (bytes ++ more) begun) last
-
--- under Standard all matches of what was read were given
-abbrev pub GivesEarly : Streaming → Type 0
-GivesEarly v = v.built.kind ≡ Standard → v.given ≡ length (matches_so_far v)
 
 -- under Standard no match was passed: none of a chain is left, and what was read since the last one has none
 pub record HasPassedNone (i : Inside) (v : Streaming) : Type 0 where
@@ -287,7 +278,7 @@ pub record IsStreaming (stands : ℕ → Node → Type 0) (chains : List (List C
   pub read : i.begun ≤ v.front + i.at
   pub past : StandsPast stands chains i v
   pub given : HasGivenFirst v.phase v.built v.bytes v.given i.begun
-  pub all : v.phase ≡ Ended → GivesEarly v
+  pub all : v.phase ≡ Ended → v.built.kind ≡ Standard → v.given ≡ length (matches_so_far v)
   pub failed : v.phase ≡ Failed → HasGivenSettled v v
   pub few : v.given ≤ i.begun
   pub in_buffer : v.front ≤ v.kept

@@ -165,8 +165,8 @@ pub record IsRoot (transitions : List Transition) (states : List State) (root : 
 
 -- r is one of a node's matches, that after so many, and where the matches after it stand in the list of a state;
 -- or None where there are no more
-abbrev pub TakesFrom : TrieView → List State → Node → ℕ → Option (ℕ × MatchRest) → Type 0
-TakesFrom g states u index r =
+abbrev pub TakesMatch : TrieView → List State → Node → ℕ → Option (ℕ × MatchRest) → Type 0
+TakesMatch g states u index r =
     MatchOption r (drop index (all_matches g u) ≡ [])
     (λ first. (v : Node) × HasState g states first.1.state v
     × (drop index (all_matches g u) ≡ first.0 ∷ drop first.1.index (all_matches g v)))
@@ -255,27 +255,11 @@ abbrev pub ForState : TrieSlices → ℕ → (TrieView → Node → Type 0) → 
 ForState trie s P =
     (g : TrieView) (u : Node) → g.transitions ≡ trie.transitions.now → HasState g trie.states.now s u → P g u
 
--- a byte leads from the state to the next one
-abbrev pub FollowsTo : TrieSlices → Anchored → ℕ → ℕ → ℕ → Type 0
-FollowsTo trie anchored s byte next =
-    ForState trie s (λ g u. slice_get g.nodes next
-    ≡ Some (step g.kind g.patterns anchored u (plain_byte g.ignores_case byte)))
-
 -- this step takes these further looks
 abbrev pub TakesLooks : TrieSlices → Anchored → ℕ → ℕ → Counts → Counts → Type 0
 TakesLooks trie anchored s byte old new =
     ForState trie s (λ g u. new
     ≡ more_looks (looks g.kind g.patterns anchored u (plain_byte g.ignores_case byte)) old)
-
--- the next one isn't the start of anchored searches
-abbrev pub StaysUnanchored : TrieSlices → ℕ → ℕ → Type 0
-StaysUnanchored trie s next =
-    ForState trie s (λ g u. slice_get g.nodes ANCHORED_START ≡ Some (Some []) → next ≢ ANCHORED_START)
-
--- what is taken from a rest of the match list of a state
-abbrev pub TakesRest : List State → List ℕ → MatchRest → Option (ℕ × MatchRest) → Type 0
-TakesRest states order rest result =
-    (g : TrieView) (u : Node) → g.order ≡ order → HasState g states rest.state u → TakesFrom g states u rest.index result
 
 -- whether a byte leads on from a node to a longer one
 abbrev pub leads_on : Built → Node → ℕ → Bool
@@ -322,12 +306,3 @@ abbrev pub IsFailureOf : Trie → ℕ → ℕ → Type 0
 IsFailureOf trie s target =
     (nodes : List Node) (x : ℕ) (u : List ℕ) → AreNodes trie nodes → IsNumbered nodes s (x ∷ u)
     → slice_get nodes target ≡ Some (failure trie.built.kind (plain_of trie.built) (x ∷ u))
-
--- how many bytes lead on from a node
-abbrev pub own_len_of : Built → Node → ℕ
-own_len_of built u = length (transition_bytes_of built u)
-
--- the byte stands at the index among those that lead on from the string of a state, and leads to the target
-abbrev pub IsOwnOf : Trie → ℕ → ℕ → ℕ → ℕ → Type 0
-IsOwnOf trie s index byte target =
-    (nodes : List Node) (w : List ℕ) → AreNodes trie nodes → IsNumbered nodes s w → IsOwn trie nodes w index byte target

@@ -6,8 +6,8 @@ use Rattle.ac_search.specs.Listing.{all}
 use Rattle.ac_search.specs.Occurrence.{Search}
 use Rattle.ac_search.specs.Pick.{order_of}
 use Rattle.ac_util.proofs.Listing.{all-only}
-use Rattle.ac_c.specs.Batches.{BeginsWith, ends_from, listing_due, listing_from, walk_due, walk_from}
-use Rattle.ac_c.specs.Searches.{in_span, input_by, is_set, listed_in, matches_in}
+use Rattle.ac_c.specs.Batches.{BeginsWithAll, ends_from, listing_due, listing_from, walk_due, walk_from}
+use Rattle.ac_c.specs.Searches.{in_span, input_by, is_set, overlapping_in, walked_in}
 use Rattle.ac_c.proofs.LateListings.{ends_from-true}
 use Rattle.ac_c.proofs.ListLemmas.{filter-all}
 
@@ -18,7 +18,7 @@ at-start start at low = elim (cases_lt at start) [
   | inr here ↦ rw (le-ltb at start here) (ap (λ (n : ℕ). record { at = n; given = 0 }) (omega arith))
 ]
 
-pub walk-begins : BeginsWith walk_due matches_in
+pub walk-begins : BeginsWithAll walk_due walked_in
 walk-begins searcher haystack span at low =
     let q = search_in searcher.built (input_by haystack span) in
     ap (walk_from (order_of searcher.built.kind (is_set span.earliest)) q) (at-start span.start at low)
@@ -28,7 +28,7 @@ from-start : (q : Search) → listing_from q (record { at = q.low; given = 0 }) 
 from-start q = filter-all (ends_from q.low) (all q) (λ m i.
     let o = all-only q m i in ends_from-true q.low m (omega (arith, o.from_low, o.as_long)))
 
-pub listing-begins : BeginsWith listing_due listed_in
+pub listing-begins : BeginsWithAll listing_due overlapping_in
 listing-begins searcher haystack span at low =
     let q = search_in searcher.built (input_by haystack span) in
     ap (listing_from q) (at-start span.start at low) ∙ from-start q

@@ -9,7 +9,7 @@ use Rattle.ac_util.proofs.Listing.{all-only, all-ordered}
 use Rattle.ac_c.specs.declared.search.Cursor.{Cursor}
 use Rattle.ac_c.specs.Batches.{ends_from, listing_from}
 use Rattle.ac_c.specs.Searches.{stepped}
-use Rattle.ac_c.specs.Steps.{StandsIn}
+use Rattle.ac_c.specs.Steps.{StandsInListing}
 use Rattle.ac_c.proofs.FewAtEnd.{few-end}
 use Rattle.ac_c.proofs.LateListings.{ends_from-true, ends_from-false, ends_from-only}
 use Rattle.ac_c.proofs.ListLemmas.{at-element, filter-all, one-kept, one-left, one-more, ordered-left, ordered-right}
@@ -27,14 +27,14 @@ due-rest at given passed rest counted =
     ∙ subst (λ n. drop n (before ++ after) ≡ after) counted (drop-append_seam before after)
 
 -- what is due where a listing stands at a cursor
-stands-due : (q : Search) (rest : List Occurrence) (at given : ℕ) → StandsIn q rest at given
+stands-due : (q : Search) (rest : List Occurrence) (at given : ℕ) → StandsInListing q rest at given
     → drop given (filter (ends_from at) (all q)) ≡ filter (ends_from at) rest
 stands-due q rest at given s =
     ap (λ ms. drop given (filter (ends_from at) ms)) s.listing ∙ due-rest at given s.passed rest s.counted
 
 -- an occurrence is the first that is left
 module _ (q : Search) (rest : List Occurrence) (m : Occurrence) (at given : ℕ)
-    (s : StandsIn q (m ∷ rest) at given) where
+    (s : StandsInListing q (m ∷ rest) at given) where
   -- what was passed over with it
   abbrev and_it : List Occurrence
   and_it = s.passed ++ m ∷ []
@@ -51,7 +51,7 @@ module _ (q : Search) (rest : List Occurrence) (m : Occurrence) (at given : ℕ)
       (All-cons (EndsBy place) m [] high (All-nil (EndsBy place)))
 
   -- an occurrence that ends before the cursor is passed over
-  pub stands-past : m.end < at → StandsIn q rest at given
+  pub stands-past : m.end < at → StandsInListing q rest at given
   stands-past earlier = record {
     passed = and_it;
     listing = more;
@@ -64,7 +64,7 @@ module _ (q : Search) (rest : List Occurrence) (m : Occurrence) (at given : ℕ)
   counted-at here =
       one-kept (ends_from at) s.passed m (ends_from-true at m (omega arith)) ∙ ap (λ n. n + 1) s.counted
 
-  stands-at : m.end ≡ at → StandsIn q rest at (given + 1)
+  stands-at : m.end ≡ at → StandsInListing q rest at (given + 1)
   stands-at here = record {
     passed = and_it;
     listing = more;
@@ -78,7 +78,7 @@ module _ (q : Search) (rest : List Occurrence) (m : Occurrence) (at given : ℕ)
       let by = at-element (EndsBy at) x s.passed s.ends i in
       ends_from-false m.end x (omega (arith, by, later)))
 
-  stands-on : at < m.end → StandsIn q rest m.end 1
+  stands-on : at < m.end → StandsInListing q rest m.end 1
   stands-on later = record {
     passed = and_it;
     listing = more;
@@ -115,9 +115,9 @@ module _ (q : Search) (rest : List Occurrence) (m : Occurrence) (at given : ℕ)
       omega (arith, few, counted-at here)
 
 module _ (q : Search) (rest : List Occurrence) (m : Occurrence) (cursor : Cursor)
-    (s : StandsIn q (m ∷ rest) cursor.at cursor.given) where
+    (s : StandsInListing q (m ∷ rest) cursor.at cursor.given) where
   -- an occurrence that ends at the cursor or later is counted
-  pub stands-stepped : cursor.at ≤ m.end → StandsIn q rest (stepped cursor m.end).at (stepped cursor m.end).given
+  pub stands-stepped : cursor.at ≤ m.end → StandsInListing q rest (stepped cursor m.end).at (stepped cursor m.end).given
   stands-stepped late = elim (eqb_tells cursor.at m.end) [
     | inl e ↦ rw e.0 (stands-at q rest m cursor.at cursor.given s (sym e.1))
     | inr e ↦ rw e.0 (stands-on q rest m cursor.at cursor.given s (let differ = e.1 in omega arith))

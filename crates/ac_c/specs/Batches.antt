@@ -40,9 +40,9 @@ listing_due searcher haystack span cursor =
     listing_from (search_in searcher.built (input_by haystack span)) (in_span span.start cursor)
 
 -- at the start of a span or before it, where nothing was given, all are due
-abbrev pub BeginsWith : (Searcher → List ℕ → Span → Cursor → List Occurrence)
+abbrev pub BeginsWithAll : (Searcher → List ℕ → Span → Cursor → List Occurrence)
     → (Searcher → List ℕ → Span → List Occurrence) → Type 0
-BeginsWith due all_in =
+BeginsWithAll due all_in =
     (searcher : Searcher) (haystack : List ℕ) (span : Span) (at : ℕ) → at ≤ span.start
     → due searcher haystack span (record { at = at; given = 0 }) ≡ all_in searcher haystack span
 
@@ -54,13 +54,6 @@ pub record Gives (due : Cursor → List Occurrence) (cursor new_cursor : Cursor)
   pub kept : drop filled new_out ≡ drop filled out
   pub fits : filled ≤ length out
   pub ends : filled < length out → due new_cursor ≡ []
-
--- a batch of a walk over a span, and one of its listing, give what was due
-abbrev pub Walks : Searcher → List ℕ → Span → Cursor → Cursor → List FoundMatch → List FoundMatch → ℕ → Type 0
-Walks searcher haystack span = Gives (walk_due searcher haystack span)
-
-abbrev pub Lists : Searcher → List ℕ → Span → Cursor → Cursor → List FoundMatch → List FoundMatch → ℕ → Type 0
-Lists searcher haystack span = Gives (listing_due searcher haystack span)
 
 -- nothing is given, and the cursor and `out` are as they were
 pub record GivesNothing (cursor new_cursor : Cursor) (out new_out : List FoundMatch) (filled : ℕ) : Type 0 where

@@ -22,17 +22,12 @@ abbrev pub limit_status : Option BuildError → ℤ
 limit_status None = OK
 limit_status (Some e) = LIMIT
 
--- which limit refuses the patterns or the engine, if one does
-abbrev pub open_refusal : Options → List ℕ → List ℕ → Option BuildError
-open_refusal options bytes ends =
-    let patterns = texts_in bytes 0 ends in
-    refusal_or (limit_refusal patterns) (engine_refusal (settings_by options) patterns)
-
 -- what is returned where there is memory: ARGUMENTS where a number names no setting or these are no ends, or else LIMIT
 abbrev pub open_status : Options → List ℕ → List ℕ → ℤ
 open_status options bytes ends =
     if names_settings options && are_ends (length bytes) 0 ends
-    then limit_status (open_refusal options bytes ends) else ARGUMENTS
+    then limit_status (let patterns = texts_in bytes 0 ends in refusal_or (limit_refusal patterns)
+    (engine_refusal (settings_by options) patterns)) else ARGUMENTS
 
 -- a call returns the status that is expected, or MEMORY in its place, unless an argument is at fault
 abbrev pub IsStatusOrMemory : ℤ → ℤ → Type 0

@@ -1,5 +1,5 @@
 -- Spans, matches and cursors of C, and what is found in a span.
-use Rattle.std.specs.Prelude.{◌≡◌, ℕ, ◌+◌, ◌==◌, Bool, true, false, ◌&&◌, nat_le, nat_lt, List, length, MatchOption, Option, Some, if◌then◌else◌}
+use Rattle.std.specs.Prelude.{◌≡◌, ℕ, ◌+◌, ◌==◌, Bool, true, false, ◌&&◌, nat_le, nat_lt, List, length, MatchOption, Option, if◌then◌else◌}
 use Rattle.ac_search.specs.Built.{find_result, search_in, walk_result}
 use Rattle.ac_search.specs.Input.{InputView}
 use Rattle.ac_search.specs.Listing.{all}
@@ -38,17 +38,13 @@ match_of found = occurrence found.pattern found.start found.end
 abbrev pub found_in : Searcher → List ℕ → Span → Option Occurrence
 found_in searcher haystack span = find_result searcher.built (input_by haystack span)
 
--- it returns this match
-abbrev pub IsFoundIn : Searcher → List ℕ → Span → FoundMatch → Type 0
-IsFoundIn searcher haystack span found = found_in searcher haystack span ≡ Some (match_of found)
-
 -- the matches of a walk over a span
-abbrev pub matches_in : Searcher → List ℕ → Span → List Occurrence
-matches_in searcher haystack span = walk_result searcher.built (input_by haystack span)
+abbrev pub walked_in : Searcher → List ℕ → Span → List Occurrence
+walked_in searcher haystack span = walk_result searcher.built (input_by haystack span)
 
 -- the occurrences of its listing
-abbrev pub listed_in : Searcher → List ℕ → Span → List Occurrence
-listed_in searcher haystack span = all (search_in searcher.built (input_by haystack span))
+abbrev pub overlapping_in : Searcher → List ℕ → Span → List Occurrence
+overlapping_in searcher haystack span = all (search_in searcher.built (input_by haystack span))
 
 -- the cursor; or where it stands before the start of a span, the one at that start with nothing given
 abbrev pub in_span : ℕ → Cursor → Cursor

@@ -1,6 +1,6 @@
 -- Which status comes when, of the calls that take no memory.
 use Rattle.std.specs.Prelude.{Bool, true, false, ℕ, ℤ, List, Option, None, Some}
-use Rattle.ac_search.specs.Built.{find_refusal, overlapping_iter_refusal}
+use Rattle.ac_search.specs.Built.{find_refusal}
 use Rattle.ac_search.specs.Occurrence.{Occurrence}
 use Rattle.ac_search.specs.Searchers.{Searcher}
 use Rattle.ac_search.specs.declared.MatchError.{MatchError}
@@ -37,8 +37,3 @@ find_status searcher haystack span =
 abbrev pub walk_status : Searcher → List ℕ → Span → ℤ
 walk_status searcher haystack span =
     status_unless (is_input haystack span) (find_refusal searcher.built (input_by haystack span)) OK
-
-abbrev pub overlapping_status : Searcher → List ℕ → Span → ℤ
-overlapping_status searcher haystack span =
-    status_unless (is_input haystack span)
-    (overlapping_iter_refusal searcher.built (input_by haystack span)) OK

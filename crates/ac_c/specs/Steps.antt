@@ -1,6 +1,6 @@
 -- Words of private functions: where an iterator stands, by a cursor.
 use Rattle.std.specs.Prelude.{◌≡◌, ◌⊎◌, ℕ, ◌≤◌, ◌++◌, All, List, [], ◌∷◌, filter, length, IfSome, MatchOption, MatchResult, Option, None, Some, Result}
-use Rattle.ac_search.specs.Built.{Built, find_refusal, overlapping_iter_refusal, search_in}
+use Rattle.ac_search.specs.Built.{find_refusal, overlapping_iter_refusal, search_in}
 use Rattle.ac_search.specs.Input.{InputView}
 use Rattle.ac_search.specs.Iterators.{Walking}
 use Rattle.ac_search.specs.Listing.{all}
@@ -14,18 +14,10 @@ use Rattle.ac_c.specs.declared.search.Cursor.{Cursor}
 use Rattle.ac_c.specs.declared.search.FoundMatch.{FoundMatch}
 use Rattle.ac_c.specs.Batches.{Gives, ends_from, last_of, listing_from, walk_from}
 
--- the matches of an input's walk that are left at a cursor
-abbrev pub walk_left : Built → InputView → Cursor → List Occurrence
-walk_left built input = walk_from (order_of built.kind input.earliest) (search_in built input)
-
 -- the iterator of a walk stands where the cursor does: it may not know of the match before
 pub record WalkStandsAt (walking : Walking) (cursor : Cursor) : Type 0 where
   pub at : walking.left.low ≡ cursor.at
   pub last : (walking.last ≡ None) ⊎ (walking.last ≡ last_of cursor)
-
--- the matches that are left at a cursor, in the span of the walk
-abbrev pub left_at : Walking → Cursor → List Occurrence
-left_at walking cursor = walk_from walking.picking.order walking.left cursor
 
 -- another offset of the same walk
 pub record IsOfWalk (walking new_walking : Walking) : Type 0 where
@@ -40,7 +32,7 @@ pub record HasTaken (walking : Walking) (cursor : Cursor) (found : Option Occurr
   pub beyond : IfSome found (λ m. (new_walking.left.low ≡ m.end) × (new_walking.last ≡ Some m.end))
 
 -- what is left of a listing stands at a cursor: nothing that was passed over ends after it, and `given` of that end at it
-pub record StandsIn (q : Search) (rest : List Occurrence) (at given : ℕ) : Type 0 where
+pub record StandsInListing (q : Search) (rest : List Occurrence) (at given : ℕ) : Type 0 where
   pub passed : List Occurrence
   pub listing : all q ≡ passed ++ rest
   pub ends : All (λ m. m.end ≤ at) passed
@@ -48,7 +40,7 @@ pub record StandsIn (q : Search) (rest : List Occurrence) (at given : ℕ) : Typ
 
 -- so does what the iterator of a listing has left
 abbrev pub ListingStandsAt : Overlapping → Cursor → Type 0
-ListingStandsAt listing cursor = StandsIn listing.search listing.rest cursor.at cursor.given
+ListingStandsAt listing cursor = StandsInListing listing.search listing.rest cursor.at cursor.given
 
 -- the first that was due at a cursor is given, and the others are due at the new one; or nothing was due, and the cursor stays
 abbrev pub GivesFirst : (Cursor → List Occurrence) → Cursor → Option Occurrence → Cursor → Type 0
@@ -65,7 +57,8 @@ GivesUnless refusal due cursor new_cursor out new_out result =
 -- a batch of an input's walk does so, and one of its listing
 abbrev pub WalksUnless : Searcher → InputView → Cursor → Cursor → List FoundMatch → List FoundMatch
     → Result ℕ MatchError → Type 0
-WalksUnless searcher input = GivesUnless (find_refusal searcher.built input) (walk_left searcher.built input)
+WalksUnless searcher input = GivesUnless (find_refusal searcher.built input)
+    (walk_from (order_of searcher.built.kind input.earliest) (search_in searcher.built input))
 
 abbrev pub ListsUnless : Searcher → InputView → Cursor → Cursor → List FoundMatch → List FoundMatch
     → Result ℕ MatchError → Type 0

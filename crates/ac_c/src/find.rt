@@ -1,6 +1,6 @@
 //! Finds, and the count of all matches.
-ghost use Rattle.std.specs.Prelude.{◌≡◌, ◌≢◌, length};
-ghost use Rattle.ac_c.specs.Searches.{IsFoundIn, matches_in};
+ghost use Rattle.std.specs.Prelude.{◌≡◌, ◌≢◌, length, Some};
+ghost use Rattle.ac_c.specs.Searches.{walked_in, found_in, match_of};
 ghost use Rattle.ac_c.specs.Statuses.{find_status, walk_status};
 
 use crate::reader::Reader;
@@ -20,7 +20,7 @@ pub extern "C" fn ac_raw_find(
     out: &mut FoundMatch,
 ) -> i32
     ensures status { result ≡ find_status reader.old.searcher haystack.now span.now }
-    ensures found { result ≡ FOUND → IsFoundIn reader.old.searcher haystack.now span.now out.new }
+    ensures found { result ≡ FOUND → found_in reader.old.searcher haystack.now span.now ≡ Some (match_of out.new) }
     ensures otherwise { result ≢ FOUND → out.new ≡ out.old }
     ensures reader { reader.new ≡ reader.old }
 {
@@ -65,7 +65,7 @@ pub extern "C" fn ac_raw_count(
     count: &mut usize,
 ) -> i32
     ensures status { result ≡ walk_status reader.old.searcher haystack.now span.now }
-    ensures count { result ≡ OK → count.new ≡ length (matches_in reader.old.searcher haystack.now span.now) }
+    ensures count { result ≡ OK → count.new ≡ length (walked_in reader.old.searcher haystack.now span.now) }
     ensures otherwise { result ≢ OK → count.new ≡ count.old }
     ensures reader { reader.new ≡ reader.old }
 {

@@ -1,9 +1,12 @@
 //! Listings of all occurrences, a batch at a time.
 ghost use Rattle.std.specs.Prelude.{◌≡◌, ◌≢◌, ◌^◌, ◌<◌, ◌≤◌, drop, length};
 ghost use Rattle.ac_search.specs.Input.{input_of};
-ghost use Rattle.ac_c.specs.Batches.{Gives, GivesNothing, Lists, listing_from};
-ghost use Rattle.ac_c.specs.Statuses.{overlapping_status};
+ghost use Rattle.ac_c.specs.Batches.{Gives, GivesNothing, listing_due, listing_from};
+ghost use Rattle.ac_c.specs.Statuses.{status_unless};
 ghost use Rattle.ac_c.specs.Steps.{GivesFirst, ListingStandsAt, ListsUnless};
+ghost use Rattle.ac_c.specs.Searches.{is_input, input_by};
+ghost use Rattle.ac_search.specs.Built.{overlapping_iter_refusal};
+ghost use Rattle.ac_c.specs.declared.status.TheConstants.{OK};
 
 use crate::reader::Reader;
 use crate::search::{Cursor, FoundMatch, Span};
@@ -25,9 +28,11 @@ pub extern "C" fn ac_raw_overlapping(
     out: &mut [FoundMatch],
     filled: &mut usize,
 ) -> i32
-    ensures status { result ≡ overlapping_status reader.old.searcher haystack.now span.now }
+    ensures status { result
+        ≡ status_unless (is_input haystack.now span.now)
+        (overlapping_iter_refusal reader.old.searcher.built (input_by haystack.now span.now)) OK }
     ensures lists { result ≡ OK
-        → Lists reader.old.searcher haystack.now span.now cursor.old cursor.new out.old out.new filled.new }
+        → Gives (listing_due reader.old.searcher haystack.now span.now) cursor.old cursor.new out.old out.new filled.new }
     ensures otherwise { result ≢ OK → GivesNothing cursor.old cursor.new out.old out.new filled.new }
     ensures reader { reader.new ≡ reader.old }
 {

@@ -1,9 +1,9 @@
 //! Walks over the matches that don't overlap, a batch at a time.
 ghost use Rattle.std.specs.Prelude.{◌≡◌, ◌≢◌, ◌≤◌, IfSome};
 ghost use Rattle.ac_search.specs.Input.{input_of};
-ghost use Rattle.ac_c.specs.Batches.{GivesNothing, Walks};
+ghost use Rattle.ac_c.specs.Batches.{GivesNothing, walk_from, Gives, walk_due};
 ghost use Rattle.ac_c.specs.Statuses.{walk_status};
-ghost use Rattle.ac_c.specs.Steps.{GivesFirst, HasTaken, IsOfWalk, WalkStandsAt, WalksUnless, left_at};
+ghost use Rattle.ac_c.specs.Steps.{GivesFirst, HasTaken, IsOfWalk, WalkStandsAt, WalksUnless};
 
 use crate::reader::Reader;
 use crate::search::{Cursor, FoundMatch, Span};
@@ -26,7 +26,7 @@ pub extern "C" fn ac_raw_walk(
 ) -> i32
     ensures status { result ≡ walk_status reader.old.searcher haystack.now span.now }
     ensures walks { result ≡ OK
-        → Walks reader.old.searcher haystack.now span.now cursor.old cursor.new out.old out.new filled.new }
+        → Gives (walk_due reader.old.searcher haystack.now span.now) cursor.old cursor.new out.old out.new filled.new }
     ensures otherwise { result ≢ OK → GivesNothing cursor.old cursor.new out.old out.new filled.new }
     ensures reader { reader.new ≡ reader.old }
 {
@@ -77,7 +77,8 @@ fn walk(
 fn next<'a, 'h>(matches: &mut FindIter<'a, 'h, Global>, cursor: &mut Cursor) -> Option<Match>
     requires { WalkStandsAt matches.old cursor.old }
     ensures same { IsOfWalk matches.old matches.new }
-    ensures gives { GivesFirst (left_at matches.old) cursor.old result cursor.new }
+    ensures gives { GivesFirst
+        (λ cursor. walk_from matches.old.picking.order matches.old.left cursor) cursor.old result cursor.new }
     ensures stands { IfSome result (λ _. WalkStandsAt matches.new cursor.new) }
     ensures onward { cursor.old.at ≤ cursor.new.at }
 {

@@ -2,8 +2,10 @@
 use Rattle.std.proofs.Common.{◌≡◌, Option, None, List, ℕ, MatchResult, Result, Ok, Err, arith}
 use Rattle.std.proofs.lemmas.Grind.{common_steps}
 use Rattle.ac_automaton.specs.Util.{BuildError, Built}
-use Rattle.ac_automaton.specs.Prelude.{IsEngineBuilt, IsRefusedExactly, RefusesBy, Trie}
+use Rattle.ac_automaton.specs.Prelude.{IsEngineBuilt, RefusesBy, Trie}
 use Rattle.ac_engines.specs.Prelude.{contiguous_refusal, contiguous_refusal_by, ContiguousSettings, ContiguousView, IsContiguousBuilt, IsContiguousFrom}
+use Rattle.std.specs.Prelude.{MatchOption}
+use Rattle.ac_util.specs.declared.error.BuildError.TheVariants.{Memory}
 
 module _ (settings : ContiguousSettings) (patterns : List (List ℕ)) (trie : Trie)
     (b : IsEngineBuilt settings.engine patterns trie) where
@@ -16,7 +18,8 @@ module _ (settings : ContiguousSettings) (patterns : List (List ℕ)) (trie : Tr
       → MatchResult r
       (λ packed. IsContiguousFrom settings.dense_depth settings.byte_classes trie.built trie.wants_prefilter packed
       × (contiguous_refusal settings.dense_depth settings.byte_classes trie.built ≡ None))
-      (IsRefusedExactly (contiguous_refusal settings.dense_depth settings.byte_classes trie.built))
+      (λ e. MatchOption (contiguous_refusal settings.dense_depth settings.byte_classes trie.built) (e ≡ Memory)
+      (λ refusal. e ≡ refusal))
       → MatchResult r (IsContiguousBuilt settings patterns) (RefusesBy (contiguous_refusal_by settings patterns) patterns)
   packed-built (Ok packed) h = grind (arith, common_steps)
   packed-built (Err e) h = grind (arith, common_steps)

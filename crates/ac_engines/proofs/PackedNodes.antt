@@ -6,8 +6,10 @@ use Rattle.std.proofs.lemmas.Grind.{common_steps}
 use Rattle.ac_util.specs.declared.search.Anchored.{Anchored}
 use Rattle.ac_automaton.specs.Util.{begins_with_pattern, class_at, failure, is_leftmost, No, Node, plain_byte, Yes}
 use Rattle.ac_automaton.specs.Prelude.{AreNodes, IsOwn, matches_of, transition_bytes_of, plain_of, Trie}
-use Rattle.ac_engines.specs.Prelude.{anchored_of, AreReady, ContiguousView, Edge, edges_of, FAIL, number_at, packed_of, Packer, Places, places_of, packed_at, packed_state}
+use Rattle.ac_engines.specs.Prelude.{AreReady, ContiguousView, Edge, edges_of, FAIL, number_at, packed_of, Packer, Places, places_of, packed_at, packed_state}
 use Rattle.ac_engines.proofs.Numbered.{inner-alive, inner-string, place-inner, place-start}
+use Rattle.std.specs.Prelude.{nat_eq}
+use Rattle.ac_automaton.specs.declared.nfa.noncontiguous.state.TheConstants.{ANCHORED_START}
 
 -- a node that is a string
 pub record IsString (u : Node) : Type 0 where
@@ -113,7 +115,8 @@ module _ (f : Packer) (nodes : List Node) (h : AreReady f nodes) where
   edges-count s None reached named =
       let string = (string-of f.plan.trie nodes h.may.are_nodes s None reached named).is in absurd cc
   edges-count s (Some w) reached named =
-      rw (edges-packed_at (packed_of f.plan nodes f.numbers []) (places_of f.plan nodes f.numbers) (anchored_of s) w)
+      rw (edges-packed_at (packed_of f.plan nodes f.numbers []) (places_of f.plan nodes f.numbers)
+      (if nat_eq s ANCHORED_START then Yes else No) w)
       (length-map _ _)
 
   -- an own transition is spelled at its place
@@ -129,5 +132,5 @@ module _ (f : Packer) (nodes : List Node) (h : AreReady f nodes) where
       let at = places_of f.plan nodes f.numbers in
       let place = place-inner f.plan.trie nodes h.may.are_nodes f.numbers next
       (w ++ plain_byte f.plan.trie.built.ignores_case byte ∷ []) h.places.count (own-inner w index byte next is) is.leads in
-      rw (edges-packed_at p at (anchored_of s) w, sym place)
+      rw (edges-packed_at p at (if nat_eq s ANCHORED_START then Yes else No) w, sym place)
       (slice_get-map (edge_by p at w) (transition_bytes_of f.plan.trie.built (Some w)) index ∙ ap (option_map (edge_by p at w)) is.place)

@@ -141,22 +141,11 @@ contiguous_automaton p = record {
   listed = λ s. match_list_at p s;
 }
 
--- the number is that of a state in these words, and the class is that of some byte
-abbrev pub MayStepBy : List ℕ → ℕ → Anchored → ℕ → Type 0
-MayStepBy words class anchored s =
-    (p : ContiguousView) × (b : ℕ) × (u : Node) × (p.words ≡ words) × (b < 256) × (class ≡ class_at p.classes b)
-    × IsContiguousState p anchored s u
-
 -- this holds of each byte of the class and of the node of the state
 abbrev pub ForStep : List ℕ → ℕ → Anchored → ℕ → (ContiguousView → ℕ → Node → Type 0) → Type 0
 ForStep words class anchored s P =
     (p : ContiguousView) (b : ℕ) (u : Node) → p.words ≡ words → b < 256 → class ≡ class_at p.classes b
     → IsContiguousState p anchored s u → P p b u
-
--- the class leads from the state to the next one
-abbrev pub StepsBy : List ℕ → ℕ → Anchored → ℕ → ℕ → Type 0
-StepsBy words class anchored s next =
-    ForStep words class anchored s (λ p b u. IsContiguousState p anchored next (step_of p.built anchored u b))
 
 -- this step takes these further looks
 abbrev pub LooksBy : List ℕ → ℕ → Anchored → ℕ → Counts → Counts → Type 0

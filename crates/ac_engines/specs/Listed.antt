@@ -1,10 +1,10 @@
 -- The classes and the nodes that an engine is built over; and a state lists the matches of its node, all that an anchored
 -- search may want.
-use Rattle.std.specs.Prelude.{ℕ, Bool, List, if◌then◌else◌, ◌≡◌, IfOk, Result, slice_get, Some, ◌<◌, ◌≤◌, MatchResult, zero, suc, [], ◌∷◌, ◌++◌, flat_map, Option, None}
+use Rattle.std.specs.Prelude.{ℕ, Bool, List, if◌then◌else◌, ◌≡◌, Result, slice_get, Some, ◌<◌, ◌≤◌, MatchResult, zero, suc, [], ◌∷◌, ◌++◌, flat_map, Option, None}
 use Rattle.ac_util.specs.Classes.{classes_of, singletons}
 use Rattle.ac_util.specs.declared.search.Anchored.{Anchored}
 use Rattle.ac_automaton.specs.Util.{Node, BuildError, GREATEST, StateIdOverflow, equal_to, failure, last_start, matches, MatchKind, No, starting_by, Yes}
-use Rattle.ac_automaton.specs.Prelude.{AreNodes, ForNode, matches_of, Trie}
+use Rattle.ac_automaton.specs.Prelude.{AreNodes, Trie}
 use Rattle.std.proofs.Common.{refl, sym, ap, ◌∙◌}
 use Rattle.std.proofs.lemmas.List.{append-nil}
 use Rattle.ac_util.proofs.Found.{matches-failure}
@@ -22,11 +22,6 @@ pub record HasNode (trie : Trie) (s : ℕ) : Type 0 where
   pub are_nodes : AreNodes trie nodes
   pub node : Node
   pub named : slice_get nodes s ≡ Some node
-
--- where the matches of a state succeed in being listed, the list has them
-abbrev pub ListsMatches : {E : Type 0} → Trie → Anchored → ℕ → List ℕ → Result (Unit {0}) E → Type 0
-ListsMatches trie anchored s listed result =
-    ForNode (AreNodes trie) s (λ nodes u. IfOk result (λ done. listed ≡ matches_of trie.built anchored u))
 
 -- the size, where a number is that of a state, or else the error that this number isn't one
 abbrev pub AnswersSize : ℕ → ℕ → Result ℕ BuildError → Type 0

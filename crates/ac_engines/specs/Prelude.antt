@@ -4,7 +4,7 @@ pub use Rattle.ac_engines.specs.Contiguous.{contiguous_of, ContiguousView, edges
 pub use Rattle.ac_engines.specs.Contiguous.Builds.{contiguous_refusal, contiguous_refusal_by, ContiguousSettings, IsContiguousBuilt, IsContiguousFrom, words_from}
 pub use Rattle.ac_engines.specs.Contiguous.Words.{format_of, match_words, most_sparse, words_of_state, node_format, node_words, packed_words, BeginsWith, HasTargets, match_list_words, one_words, PackedState, word_of}
 pub use Rattle.ac_engines.specs.Contiguous.Reads.{AreNamed, class_of_place, first_of, named, transitions_of_state}
-pub use Rattle.ac_engines.specs.Contiguous.Packs.{anchored_of, AreReady, dead_words, HasPushedUpTo, Packer, packed_state, state_words}
+pub use Rattle.ac_engines.specs.Contiguous.Packs.{AreReady, dead_words, HasPushedUpTo, Packer, packed_state, state_words}
 pub use Rattle.ac_engines.specs.Contiguous.Plans.{before, format_for, front_end, has_matches, HasPlaces, HasWords, MayPack, packed_of, PackPlan, place_at, placed, places_of, size_at, size_of, sized}
 unfoldable pub use Rattle.ac_engines.specs.Contiguous.Plans.{total}
 unfoldable pub use Rattle.ac_engines.specs.Contiguous.Words.{class_words, format_words, target_by}

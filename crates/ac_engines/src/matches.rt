@@ -1,6 +1,7 @@
 //! The matches of a trie's states.
-ghost use Rattle.std.specs.Prelude.{Some};
-ghost use Rattle.ac_engines.specs.Listed.{HasNode, ListsMatches};
+ghost use Rattle.std.specs.Prelude.{Some, IfOk, ◌≡◌};
+ghost use Rattle.ac_engines.specs.Listed.{HasNode};
+ghost use Rattle.ac_automaton.specs.Prelude.{ForNode, AreNodes, matches_of};
 
 use ac_automaton::automaton::{Automaton, MatchRest, is_due};
 use ac_automaton::nfa::noncontiguous::NFA;
@@ -20,7 +21,8 @@ pub(crate) fn list_matches<A: Allocator>(
     matches: &mut Vec<PatternID, A>,
 ) -> Result<(), AllocError>
     requires state { HasNode nfa.now sid }
-    ensures { ListsMatches nfa.now anchored sid matches.new.items result }
+    ensures { ForNode (AreNodes nfa.now) sid
+        (λ nodes u. IfOk result (λ done. matches.new.items ≡ matches_of nfa.now.built anchored u)) }
 {
     matches.clear();
     let depth = nfa.depth(sid);

@@ -6,6 +6,8 @@ use std::alloc::{AllocError, Global};
 use std::fmt::Debug;
 use std::process::Abort;
 
+mod answers;
+mod rows;
 pub(crate) mod searches;
 mod states;
 

@@ -7,7 +7,7 @@ use Rattle.ac_automaton.specs.Overlaps.{GivesNext}
 use Rattle.ac_automaton.specs.Streams.{Streaming, initial_stream}
 use Rattle.ac_search.specs.declared.ahocorasick.engine.Engine.{Engine}
 use Rattle.ac_search.specs.Engines.{built_of, searcher_of, states_of, Supports}
-use Rattle.ac_search.specs.Searchers.{GivesItem, Searcher, listed_in, stands_in, HasBegun}
+use Rattle.ac_search.specs.Searchers.{Searcher, listed_in, stands_in, HasBegun}
 
 -- a find or a walk is refused for its start alone
 find-refusal : (built : Built) (input : InputView)
@@ -56,7 +56,9 @@ module _ {Z : Type 0} (engine : Engine Z) (start_kind : StartKind) (input : Inpu
       × GivesNext (stands_in (states_of engine) input.anchored) (listed_in (states_of engine)) (built_of engine).kind
       (search_in (built_of engine) input) state new_state)
       (λ e. (overlapping_refusal (built_of engine) input ≡ Some e) × (new_state ≡ state))
-      → MatchResult r (λ _. (overlapping_refusal searcher.built input ≡ None) × GivesItem searcher input state new_state)
+      → MatchResult r (λ _. (overlapping_refusal searcher.built input ≡ None)
+      × GivesNext (stands_in searcher.states input.anchored) (listed_in searcher.states) searcher.built.kind
+      (search_in searcher.built input) state new_state)
       (λ e. (overlapping_refusal searcher.built input ≡ Some e) × (new_state ≡ state))
   item-served (Ok done) h = search (rules, refusals)
   item-served (Err e) h = (refusals ∙ h.0, h.1)

@@ -15,7 +15,7 @@ use Rattle.ac_util.proofs.Shortest.{none-empty}
 use Rattle.ac_automaton.specs.declared.automaton.stream_settled.Phase.{Phase}
 use Rattle.ac_automaton.specs.declared.automaton.stream_settled.Phase.TheVariants.{Ended, Failed, Open}
 use Rattle.ac_automaton.specs.Streams.{EndsNow, GivesError, GivesNextMatch, GivesNone, GoesOnBy, IsSettledIn, KeepsGiven, Streaming}
-use Rattle.ac_search.specs.Searchers.{starting_by}
+use Rattle.ac_search.specs.Searchers.{with_start}
 use Rattle.ac_search.specs.StreamLoops.{BeginsUnderway, given_matches, GivenStay, HasGivenAll, HasGivenOne, HasStoppedAt, IsUnderway}
 use Rattle.ac_search.proofs.StreamsServed.{settled-by}
 
@@ -110,7 +110,7 @@ module _ {ends : Bool} {built : Built} {first now : Reading} {v : Streaming} (h 
       → GivenStay built given bytes
   settled-alike {v'} bytes given place same settled =
       settled-stay built bytes built.kind refl given place
-      (settled-by (starting_by built h.start) built.start_kind built.kind bytes given place
+      (settled-by (with_start built h.start) built.start_kind built.kind bytes given place
       (subst (λ (b : Built). IsSettledBy b.kind b bytes given place) (same ∙ h.built_is) settled))
 
   module _ {w : Streaming} {later : Reading} where

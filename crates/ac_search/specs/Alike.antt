@@ -1,12 +1,12 @@
 -- How answers of several settings, engines and spans agree, in what order matches come, and what is written of a stream.
-use Rattle.std.specs.Prelude.{◌≡◌, ℕ, Bool, List, ◌<◌, Err, MatchResult, None, Option, Result, Some, ◌+◌, ◌-◌, ◌≤◌, IfSome, length, [], ◌∷◌, ⊤}
+use Rattle.std.specs.Prelude.{◌≡◌, ℕ, Bool, List, ◌<◌, Err, MatchResult, None, Option, Result, Some, ◌≤◌, IfSome, length, [], ◌∷◌, ⊤}
 use Rattle.std.specs.declared.io.Error.{Error}
 use Rattle.ac_util.specs.Device.{Reading, Writing}
 use Rattle.ac_util.specs.Stream.{ExchangesAll, ExchangesBeginning}
 use Rattle.ac_util.specs.declared.error.StreamError.{StreamError}
 use Rattle.ac_automaton.specs.Answers.{Calling, ExchangesStream, ExchangesStreamBy}
-use Rattle.ac_automaton.specs.Util.{all, Built, exchanged, exchanged_in_text, find_refusal, find_result, InputView, IsSettledBy, kept_back_len, MatchKind, overlapping_iter_refusal, overlapping_refusal, replace_refusal, search_in, StartKind, stream_refusal, stream_result, IsBetweenCharacters, Occurrence, Occurs, walk_result}
-use Rattle.ac_search.specs.Searchers.{IsBuilt, Searcher, Settings, starting_by}
+use Rattle.ac_automaton.specs.Util.{all, Built, exchanged, exchanged_in_text, find_refusal, find_result, InputView, kept_back_len, overlapping_iter_refusal, overlapping_refusal, replace_refusal, search_in, stream_refusal, stream_result, IsBetweenCharacters, Occurrence, Occurs, walk_result}
+use Rattle.ac_search.specs.Searchers.{IsBuilt, Searcher, Settings}
 use Rattle.std.specs.List.{AllByRecursion}
 
 -- every find is refused alike, and returns the same
@@ -34,12 +34,6 @@ abbrev pub StreamAlike : Built → Built → Type 0
 StreamAlike one other =
     (bytes : List ℕ) → (stream_refusal one ≡ stream_refusal other) × (stream_result one bytes ≡ stream_result other bytes)
     × (kept_back_len one bytes ≡ kept_back_len other bytes)
-
--- as far as a stream is settled where these starts are supported, it is settled by what was built
-abbrev pub SettlesAlike : MatchKind → Built → StartKind → Type 0
-SettlesAlike kind built start =
-    (bytes : List ℕ) (given place : ℕ) → IsSettledBy kind (starting_by built start) bytes given place
-    → IsSettledBy kind built bytes given place
 
 -- builds by these settings over the same patterns, which share the match kind, the case setting and the start kind, give
 -- searchers that answer alike
@@ -90,27 +84,15 @@ IsNumberedBelow count built input m = m.pattern < count
 abbrev pub StandsBetweenCharacters : Built → InputView → Occurrence → Type 0
 StandsBetweenCharacters built input m = IsBetweenCharacters input.haystack m
 
--- a walk has at most one match more than the span has bytes
-abbrev pub WalksFew : Built → InputView → Type 0
-WalksFew built input = length (walk_result built input) ≤ input.end + 1 - input.start
-
 -- the first match starts no earlier than low, each other one no earlier than the one before it ends, and none ends past high
 abbrev pub StandInOrder : ℕ → ℕ → List Occurrence → Type 0
 StandInOrder low high [] = ⊤
 StandInOrder low high (m ∷ ms) = (low ≤ m.start) × (m.start ≤ m.end) × (m.end ≤ high) × StandInOrder m.end high ms
 
--- the matches of a walk do so, in the input's span and so in the haystack
-abbrev pub WalksInOrder : Built → InputView → Type 0
-WalksInOrder built input = StandInOrder input.start (length input.haystack) (walk_result built input)
-
 -- the same where none of the matches is empty
 abbrev pub StandApart : ℕ → ℕ → List Occurrence → Type 0
 StandApart low high [] = ⊤
 StandApart low high (m ∷ ms) = (low ≤ m.start) × (m.start < m.end) × (m.end ≤ high) × StandApart m.end high ms
-
--- those of a walk do so
-abbrev pub WalksApart : Built → InputView → Type 0
-WalksApart built input = StandApart input.start (length input.haystack) (walk_result built input)
 
 -- each byte is ASCII
 abbrev pub AreAscii : List ℕ → Type 0

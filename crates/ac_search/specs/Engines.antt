@@ -1,9 +1,8 @@
 -- What the engine of a searcher, its iterators and its searches over streams are seen as.
-use Rattle.std.specs.Prelude.{◌≡◌, ◌⊎◌, Bool, MatchResult, None, Option, Result}
-use Rattle.ac_automaton.specs.Util.{Both, BuildError, Built, Occurrence, Reading, StartKind, StreamError}
+use Rattle.std.specs.Prelude.{◌≡◌, ◌⊎◌, Bool, MatchResult, None, Result}
+use Rattle.ac_automaton.specs.Util.{Both, BuildError, Built, StartKind}
 use Rattle.ac_automaton.specs.Builds.{IsRefused}
-use Rattle.ac_automaton.specs.Prelude.{Overlapping, Streaming, Streams, Trie, Walking}
-use Rattle.ac_automaton.specs.Streams.{on}
+use Rattle.ac_automaton.specs.Prelude.{Overlapping, Streaming, Trie, Walking}
 use Rattle.ac_search.specs.declared.ahocorasick.choice.AhoCorasickKind.{AhoCorasickKind}
 use Rattle.ac_search.specs.declared.ahocorasick.choice.AhoCorasickKind.TheVariants.{ContiguousNFA, DFA, NoncontiguousNFA}
 use Rattle.ac_search.specs.declared.ahocorasick.engine.Engine.{Engine}
@@ -81,10 +80,3 @@ abbrev pub streaming_in : {Y Z : Type 0} → EngineStreamFinder Y Z → Streamin
 streaming_in (StreamedByNoncontiguous finder) = finder
 streaming_in (StreamedByContiguous finder) = finder
 streaming_in (StreamedByDfa finder) = finder
-
--- what a call answers that gives the next match of the stream, by the search of an engine. `read` gives what is seen of the
--- reader
-abbrev pub EngineStreams : {R Y Z : Type 0} → Bool → (R → Reading) → EngineStreamFinder Y Z
-    → Option (Result Occurrence StreamError) → EngineStreamFinder Y Z → R → R → Type 0
-EngineStreams ends read old result new reader new_reader =
-    Streams ends (on read (streaming_in old) reader) result (on read (streaming_in new) new_reader)

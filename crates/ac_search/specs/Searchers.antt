@@ -5,7 +5,7 @@ use Rattle.ac_util.specs.declared.search.Anchored.{Anchored}
 use Rattle.ac_util.specs.Node.{Node}
 use Rattle.ac_automaton.specs.Tries.{IsTrieState, Trie, listed_within}
 use Rattle.ac_engines.specs.Prelude.{ContiguousView, DfaView, IsContiguousState, IsDfaState, list_at, match_list_at, contiguous_refusal, dfa_refusal, IsContiguousFrom, IsDfaFrom}
-use Rattle.ac_automaton.specs.Util.{AnswersUnless, Both, BuildError, Built, find_refusal, InputView, MatchError, overlapping_iter_refusal, StartKind, Unanchored, Reading, item_at, Occurrence, overlapping_refusal, place_after, search_in}
+use Rattle.ac_automaton.specs.Util.{Both, BuildError, Built, InputView, MatchError, StartKind, Unanchored, Reading, item_at, Occurrence, overlapping_refusal, place_after, search_in}
 use Rattle.ac_util.specs.declared.search.StartKind.TheVariants.{Anchored as AnchoredAlone}
 use Rattle.ac_automaton.specs.Builds.{AnswersBuild, EngineSettings, IsAllowed, engine_built_by, fits, refusal_or, state_refusal, usual_engine_settings}
 use Rattle.ac_automaton.specs.Iterators.{Walking, initial_walk}
@@ -142,33 +142,24 @@ abbrev pub initial_listing_by : Searcher → InputView → Overlapping
 initial_listing_by searcher input =
     initial_listing (looks_allowed searcher.kind) searcher.built searcher.wants_prefilter input
 
--- it begins with that, or the searcher doesn't support it
-abbrev pub BeginsWalk : Searcher → InputView → Result Walking MatchError → Type 0
-BeginsWalk searcher input result =
-    AnswersUnless (find_refusal searcher.built input) (initial_walk_by searcher input) result
-
-abbrev pub BeginsListing : Searcher → InputView → Result Overlapping MatchError → Type 0
-BeginsListing searcher input result =
-    AnswersUnless (overlapping_iter_refusal searcher.built input) (initial_listing_by searcher input) result
-
 -- a build by these settings has succeeded, or is refused
 abbrev pub BuildsSearcher : Settings → List (List ℕ) → Result Searcher BuildError → Type 0
 BuildsSearcher settings patterns result =
     AnswersBuild (IsBuilt settings) (engine_refusal settings) patterns result
 
 -- what was built, with these starts
-abbrev pub starting_by : Built → StartKind → Built
-starting_by built start = record built { start_kind = start }
+abbrev pub with_start : Built → StartKind → Built
+with_start built start = record built { start_kind = start }
 
 -- it is one of which nothing was read, for what the searcher was built from; but its engine may have more starts
 abbrev pub HasBegun : Built → Streaming → Type 0
-HasBegun built stream = (start : StartKind) × (stream ≡ initial_stream (starting_by built start))
+HasBegun built stream = (start : StartKind) × (stream ≡ initial_stream (with_start built start))
 
 -- an iterator begins with one, over what its reader has left
 abbrev pub HasBegunOver : Built → Reading → StreamReading → Type 0
 HasBegunOver built reader matches =
     (start : StartKind)
-    × (matches ≡ record { stream = initial_stream (starting_by built start); reader = reader })
+    × (matches ≡ record { stream = initial_stream (with_start built start); reader = reader })
 
 -- a state stands for a rank in the listing of an input by a searcher: it is fresh, or a call over these has left it
 abbrev pub HasPlace : Searcher → InputView → OverlappingState → Type 0
@@ -180,17 +171,13 @@ HasPlace searcher input state =
 abbrev pub rank_in : Searcher → InputView → OverlappingState → ℕ
 rank_in searcher input state = place_by (listed_in searcher.states) (search_in searcher.built input) state
 
--- a call has given the next item of the listing, or none past its end, and the state stands for the rank after it
-abbrev pub GivesItem : Searcher → InputView → OverlappingState → OverlappingState → Type 0
-GivesItem searcher input state new_state =
-    GivesNext (stands_in searcher.states input.anchored) (listed_in searcher.states) searcher.built.kind
-    (search_in searcher.built input) state new_state
-
 -- a call has done so; or it is refused, and the state is as it was
 abbrev pub FindsItem : Searcher → InputView → OverlappingState → Result (Unit {0}) MatchError → OverlappingState → Type 0
 FindsItem searcher input state result new_state =
     MatchResult result
-    (λ done. (overlapping_refusal searcher.built input ≡ None) × GivesItem searcher input state new_state)
+    (λ done. (overlapping_refusal searcher.built input ≡ None)
+    × GivesNext (stands_in searcher.states input.anchored) (listed_in searcher.states) searcher.built.kind
+    (search_in searcher.built input) state new_state)
     (λ e. (overlapping_refusal searcher.built input ≡ Some e) × (new_state ≡ state))
 
 -- the item of the listing that comes next, or None past its end

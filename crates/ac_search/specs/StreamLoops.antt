@@ -7,7 +7,7 @@ use Rattle.ac_util.specs.declared.error.StreamError.TheVariants.{Io}
 use Rattle.ac_automaton.specs.Streams.{GivesError, GivesNextMatch, GivesNone, Streaming}
 use Rattle.ac_automaton.specs.Util.{Built, has_empty, Occurrence, Reading, Standard, StartKind, stream_result, usize_max}
 use Rattle.ac_automaton.specs.declared.automaton.stream_settled.Phase.TheVariants.{Ended, Failed, Open}
-use Rattle.ac_search.specs.Searchers.{HasBegun, starting_by}
+use Rattle.ac_search.specs.Searchers.{HasBegun, with_start}
 
 -- the matches that a search has given so far
 abbrev pub given_matches : Built → Streaming → List Occurrence
@@ -17,7 +17,7 @@ given_matches built v = take v.given (stream_result built v.bytes)
 -- true, the reader has nothing left once the end was met
 pub record IsUnderway (ends : Bool) (built : Built) (first now : Reading) (v : Streaming) : Type 0 where
   pub start : StartKind
-  pub built_is : v.built ≡ starting_by built start
+  pub built_is : v.built ≡ with_start built start
   pub goes_on : v.phase ≢ Failed
   pub read : Consumes first.left now.left v.bytes
   pub failed : now.failed ≡ first.failed

@@ -1,15 +1,15 @@
 //! Laws that users of a searcher may rely on, each the contract of a function that does nothing. They are about the
 //! definitions that the contracts of the searches are made of: nothing is called, nothing is assumed.
-ghost use Rattle.std.specs.Prelude.{◌≡◌, ◌≢◌, ◌↔◌, All, Bool, IsTrue, List, None, false, length, map, true, ℕ};
+ghost use Rattle.std.specs.Prelude.{◌≡◌, ◌≢◌, ◌↔◌, All, Bool, IsTrue, List, None, false, length, map, true, ℕ, ◌≤◌, ◌+◌, ◌-◌};
 ghost use Rattle.std.specs.Str.{IsUtf8};
 ghost use Rattle.ac_util.specs.Replacement.{Calls};
 ghost use Rattle.ac_util.specs.Stream.{AlwaysWritesOut, by_length, text_of};
-ghost use Rattle.ac_automaton.specs.Util.{AreTexts, InputView, input_of, Built, find_refusal, find_result, has_empty, LiesIn, MatchKind, Occurrence, shortest_len, StartKind, stream_result, walk_result};
+ghost use Rattle.ac_automaton.specs.Util.{AreTexts, InputView, input_of, Built, find_refusal, find_result, has_empty, LiesIn, MatchKind, Occurrence, shortest_len, StartKind, stream_result, walk_result, IsSettledBy};
 ghost use Rattle.ac_automaton.specs.Iterators.{GoesOn};
 ghost use Rattle.ac_automaton.specs.Overlaps.{ListsNext};
 ghost use Rattle.ac_automaton.specs.Streams.{Streams, items_left};
-ghost use Rattle.ac_search.specs.Alike.{ClosuresWrite, ListsWrite, UnchangedBegins, BuildAlike, FindAlike, ListAlike, ReplaceAlike, SettlesAlike, StreamAlike, EndsAtError, LeavesLess, StaysEnded, EndsInside, FindsOnly, IsNumberedBelow, ListsOnly, SomeOccurs, StandApart, StandInOrder, StandsBetweenCharacters, WalksApart, WalksFew, WalksOnly, WalksInOrder, AreWords};
-ghost use Rattle.ac_search.specs.Searchers.{Settings};
+ghost use Rattle.ac_search.specs.Alike.{ClosuresWrite, ListsWrite, UnchangedBegins, BuildAlike, FindAlike, ListAlike, ReplaceAlike, StreamAlike, EndsAtError, LeavesLess, StaysEnded, EndsInside, FindsOnly, IsNumberedBelow, ListsOnly, SomeOccurs, StandApart, StandInOrder, StandsBetweenCharacters, WalksOnly, AreWords};
+ghost use Rattle.ac_search.specs.Searchers.{Settings, with_start};
 ghost use Rattle.ac_search.specs.StreamLoops.{BeginsUnderway, ErrorLeavesSettled, MatchGoesOn, NoneEnds};
 ghost use Rattle.ac_search.specs.declared.ahocorasick.choice.AhoCorasickKind.{AhoCorasickKind};
 ghost use Rattle.ac_engines.specs.declared.nfa.contiguous.format.Format.{Format};
@@ -45,7 +45,8 @@ pub fn answers_lie_inside<A: Allocator>(searcher: &AhoCorasick<A>, input: Input<
     ensures ends { WalksOnly EndsInside searcher.now.built (input_of input.entry) }
     ensures listing { ListsOnly LiesIn searcher.now.built (input_of input.entry) }
     ensures listing_ends { ListsOnly EndsInside searcher.now.built (input_of input.entry) }
-    ensures few { WalksFew searcher.now.built (input_of input.entry) }
+    ensures few { length (walk_result searcher.now.built (input_of input.entry)) ≤ (input_of input.entry).end + 1 -
+        (input_of input.entry).start }
 {}
 
 /// A searcher supports a find and a walk over an input that isn't anchored, unless it supports anchored searches alone.
@@ -79,7 +80,8 @@ pub fn answers_have_values<A: Allocator, T>(
 /// Call this before a loop over the matches that also slices the haystack between them. The loop's invariant is then
 /// `StandInOrder`, from where the match before ended, over the matches still to come.
 pub fn matches_stand_in_order<A: Allocator>(searcher: &AhoCorasick<A>, input: Input<'_>)
-    ensures { WalksInOrder searcher.now.built (input_of input.entry) }
+    ensures { StandInOrder (input_of input.entry).start (length (input_of input.entry).haystack)
+        (walk_result searcher.now.built (input_of input.entry)) }
 {}
 
 /// Where no pattern is empty, the matches of a walk stand one after another, and none of them is empty.
@@ -87,7 +89,8 @@ pub fn matches_stand_in_order<A: Allocator>(searcher: &AhoCorasick<A>, input: In
 /// Call this as `matches_stand_in_order`, where each match has to have a byte. The loop's invariant is then `StandApart`.
 pub fn matches_stand_apart<A: Allocator>(searcher: &AhoCorasick<A>, input: Input<'_>)
     requires { has_empty searcher.now.built ≡ false }
-    ensures { WalksApart searcher.now.built (input_of input.entry) }
+    ensures { StandApart (input_of input.entry).start (length (input_of input.entry).haystack)
+        (walk_result searcher.now.built (input_of input.entry)) }
 {}
 
 /// The matches of a stream stand one after another in its bytes; and where no pattern is empty, none of them is.
@@ -198,7 +201,8 @@ pub fn finder_goes_on()
 /// The search that `AhoCorasick::try_stream_finder` returns is for what its searcher was built from, but its engine may
 /// support more starts. Call this where what that search says of a failed read has to be said of the searcher.
 pub fn streams_settle_alike()
-    ensures { (kind : MatchKind) (built : Built) (start : StartKind) → SettlesAlike kind built start }
+    ensures { (kind : MatchKind) (built : Built) (start : StartKind) → (bytes : List ℕ) (given place : ℕ)
+        → IsSettledBy kind (with_start built start) bytes given place → IsSettledBy kind built bytes given place }
 {}
 
 /// Two values of `AhoCorasickKind` compare equal exactly if they are the same, and a clone of one is that value.

@@ -1,5 +1,5 @@
 -- What a read and a write do, and what many of them do: which bytes move, and which counts rise.
-use Rattle.std.specs.Prelude.{◌≡◌, ℕ, ◌+◌, ◌<◌, ◌≤◌, Bool, true, ◌&&◌, ◌==◌, nat_lt, List, ◌++◌, length, take, Option, IfSome, Result, Ok, MatchResult, min, if◌then◌else◌}
+use Rattle.std.specs.Prelude.{◌≡◌, ℕ, ◌+◌, ◌<◌, ◌≤◌, Bool, true, ◌&&◌, ◌==◌, nat_lt, List, ◌++◌, length, take, Option, Result, MatchResult, if◌then◌else◌}
 use Rattle.std.specs.Io.{StartsWith}
 use Rattle.std.specs.IoError.{error_kind}
 use Rattle.std.specs.declared.io.Error.{Error}
@@ -51,10 +51,6 @@ pub record Gave (old new : Writing) (piece : List ℕ) (n : ℕ) : Type 0 where
 -- a write answered r: it gave what r says, or it failed and the one thing that changed is the count of failures
 abbrev pub Writes : {E : Type 0} → Writing → Writing → Result ℕ E → List ℕ → Type 0
 Writes old new r piece = MatchResult r (Gave old new piece) (λ _. new ≡ record old { failed = old.failed + 1 })
-
--- a read of these bytes answered r: it gave all, or as many as the slice has room for
-abbrev pub GivesAll : {E : Type 0} → Option (List ℕ) → Result ℕ E → List ℕ → Type 0
-GivesAll left r into = IfSome left (λ bytes. r ≡ Ok (min (length bytes) (length into)))
 
 -- the bytes came, by reads of which each gave some
 pub record ReadsSome (old new : Reading) (bytes : List ℕ) : Type 0 where
@@ -111,10 +107,6 @@ IsIoErrorOf WriteZero error = error_kind error ≡ OfKindWriteZero
 pub record WritesUntilFailure (old new : Writing) (bytes : List ℕ) (e : WriteError) : Type 0 where
   pub some : WritesSome old new bytes
   pub cause : HasCause old new e
-
--- the bytes were all written; or a beginning of them was, and then a write has failed or took nothing
-abbrev pub WritesOrFails : Writing → Writing → List ℕ → Result (Unit {0}) WriteError → Type 0
-WritesOrFails old new bytes result = MatchResult result (λ _. WritesAll old new bytes) (WritesUntilFailure old new bytes)
 
 -- a beginning of the bytes was written, or all of them
 pub record WritesBeginning (old new : Writing) (bytes : List ℕ) : Type 0 where

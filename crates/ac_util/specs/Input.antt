@@ -1,9 +1,8 @@
 -- What a search is given: haystack, span and options, as a tape and what is counted of it.
-use Rattle.std.specs.Prelude.{ℕ, ◌+◌, ◌≤◌, Bool, false, List, length, ◌<◌}
+use Rattle.std.specs.Prelude.{ℕ, ◌+◌, ◌≤◌, Bool, false, List, length}
 use Rattle.ac_util.specs.declared.search.Anchored.{Anchored}
 use Rattle.ac_util.specs.declared.search.Anchored.TheVariants.{No}
 use Rattle.ac_util.specs.Occurrence.{Search}
-use Rattle.ac_util.specs.declared.search.Span.{Span}
 use Rattle.ac_util.specs.declared.search.input.Input.{Input}
 
 -- the span begins at `start` and ends before `end`; it may begin one past its end, and then has nothing in it
@@ -49,10 +48,6 @@ input_of input = record {
   anchored = input.anchored;
   earliest = input.earliest;
 }
-
--- an offset lies in a span, or is its end; none does where the span has no bytes
-abbrev pub HasOffset : Span → ℕ → Type 0
-HasOffset span offset = (span.start < span.end) × (span.start ≤ offset) × (offset ≤ span.end)
 
 -- bytes read, states looked at, and calls of a prefilter
 pub record Counts : Type 0 where

@@ -1,38 +1,25 @@
 -- What the laws say: of tests, of values and classes, and of what a search answers.
-use Rattle.std.specs.Prelude.{◌≡◌, ℕ, ◌+◌, ◌-◌, ◌<◌, ◌≤◌, ◌++◌, ◌↔◌, nat_le, Bool, true, false, List, [], ◌∷◌, All, drop, filter, length, map, slice_index, take, Option, None, Some}
-use Rattle.std.specs.Hash as fed
-use Rattle.std.specs.Str.{IsUtf8}
+use Rattle.std.specs.Prelude.{◌≡◌, ℕ, ◌+◌, ◌≤◌, ◌++◌, ◌↔◌, Bool, true, false, List, [], ◌∷◌, All, drop, length, map, take, Option, None, Some}
 use Rattle.std.specs.declared.alloc.AllocError.{AllocError}
 use Rattle.ac_util.specs.declared.search.MatchKind.{MatchKind}
 use Rattle.ac_util.specs.declared.search.MatchKind.TheVariants.{Standard}
-use Rattle.ac_util.specs.Built.{Built, has_empty, search_in, LiesIn, AreTexts, IsBetweenCharacters}
-use Rattle.ac_util.specs.Classes.{AreClasses, IsLawful, SetsApart, class_at, is_in_patterns}
+use Rattle.ac_util.specs.Built.{Built, has_empty, search_in, LiesIn}
+use Rattle.ac_util.specs.Classes.{IsLawful, SetsApart, class_at, is_in_patterns}
 use Rattle.ac_util.specs.Input.{InputView, whole_input}
-use Rattle.ac_util.specs.Listing.{all, place_after}
 use Rattle.ac_util.specs.Node.{is_leftmost, is_node}
-use Rattle.ac_util.specs.Occurrence.{Occurrence, plain, plain_byte, same_byte, Search, from, pattern_of}
+use Rattle.ac_util.specs.Occurrence.{Occurrence, plain, plain_byte, Search, from}
 use Rattle.ac_util.specs.Pick.{pick}
 use Rattle.ac_util.specs.Replacement.{replaced, AppendsBeginning, Replacing, ReplacementSteps, WritesText, answer_of}
 use Rattle.ac_util.specs.Stream.{exchanged_to, IsSettledAt, NoneOpen, kept_back_len, stream_exchanged, stream_result, without_last, IsSettledBy}
-use Rattle.ac_util.specs.Walk.{next_match, walk, walk_after}
+use Rattle.ac_util.specs.Walk.{next_match, walk_after}
 
 -- a test is true exactly where its fact holds
 abbrev pub Decides : {X Y : Type 0} → (X → Y → Bool) → (X → Y → Type 0) → Type 0
 Decides {X} {Y} test Fact = (x : X) (y : Y) → (test x y ≡ true) ↔ Fact x y
 
--- two strings are alike: they have one length, and their bytes are the same, one by one
-abbrev pub AreAlike : Bool → List ℕ → List ℕ → Type 0
-AreAlike ignores_case s t =
-    (length s ≡ length t)
-    × ((k : ℕ) → k < length s → same_byte ignores_case (slice_index s k) (slice_index t k) ≡ true)
-
 -- values that compare as equal hand a hasher the same
 abbrev pub HashesEqually : {X : Type 0} → (X → X → Bool) → (X → List (List ℕ)) → Type 0
 HashesEqually {X} eq hash_input = (a b : X) → eq a b ≡ true → hash_input a ≡ hash_input b
-
--- what a hasher is handed of a match: its pattern's number, its start and its end
-abbrev pub match_input : Occurrence → List (List ℕ)
-match_input m = fed.u32 m.pattern ++ fed.usize m.start ++ fed.usize m.end
 
 -- by these classes an automaton may step, whatever its settings and patterns
 abbrev pub IsAlwaysLawful : (Bool → List (List ℕ) → ℕ → ℕ) → Type 0
@@ -44,18 +31,10 @@ IsAlwaysLawful class =
 abbrev pub IsLawfulAsRead : (Bool → List (List ℕ) → List ℕ) → Type 0
 IsLawfulAsRead classes = IsAlwaysLawful (λ ignores_case patterns. class_at (classes ignores_case patterns))
 
--- these are classes of all bytes, whatever the patterns, and whether case is ignored or not
-abbrev pub AreAlwaysClasses : (Bool → List (List ℕ) → List ℕ) → Type 0
-AreAlwaysClasses classes = (ignores_case : Bool) (patterns : List (List ℕ)) → AreClasses (classes ignores_case patterns)
-
 -- in these, each byte of a pattern has a class of its own
 abbrev pub AlwaysSetsApart : (Bool → List (List ℕ) → List ℕ) → Type 0
 AlwaysSetsApart classes =
     (ignores_case : Bool) (patterns : List (List ℕ)) → SetsApart ignores_case patterns (classes ignores_case patterns)
-
--- each byte has a class below n
-abbrev pub AreBelow : List ℕ → ℕ → Type 0
-AreBelow classes n = (b : ℕ) → b < 256 → class_at classes b < n
 
 -- only a byte that stands in some pattern leads from a node to one that is longer
 abbrev pub OnlyPatternsLead : Bool → MatchKind → Type 0
@@ -64,33 +43,10 @@ OnlyPatternsLead ignores_case kind =
     → is_node kind (map (plain ignores_case) patterns) (u ++ plain_byte ignores_case b ∷ []) ≡ true
     → is_in_patterns ignores_case patterns b ≡ true
 
--- the rank is past the end of the listing, and stays
-abbrev pub IsPastListing : Search → ℕ → Type 0
-IsPastListing q place = (length (all q) ≤ place) × (place_after q place ≡ place)
-
--- the rank is one of the listing, and the next one is one further on
-abbrev pub IsInListing : Search → ℕ → Type 0
-IsInListing q place = (place < length (all q)) × (place_after q place ≡ place + 1)
-
--- the pattern of an occurrence
-abbrev pub matched_pattern : Search → Occurrence → List ℕ
-matched_pattern q m = pattern_of q.patterns m.pattern
-
--- what this gives, if anything, lies in the span of the input, where that ends within the haystack
-abbrev pub AnswerLiesIn : (Built → InputView → Option Occurrence) → Type 0
-AnswerLiesIn answer =
-    (built : Built) (input : InputView) (m : Occurrence) → input.end ≤ length input.haystack → answer built input ≡ Some m
-    → LiesIn built input m
-
 -- all that this gives lies there
 abbrev pub AllLieIn : (Built → InputView → List Occurrence) → Type 0
 AllLieIn answers =
     (built : Built) (input : InputView) → input.end ≤ length input.haystack → All (LiesIn built input) (answers built input)
-
--- a match of a text by patterns that are texts starts and ends between characters
-abbrev pub CutsNoCharacter : Built → InputView → Occurrence → Type 0
-CutsNoCharacter built input m =
-    AreTexts built.patterns → IsUtf8 input.haystack → LiesIn built input m → IsBetweenCharacters input.haystack m
 
 -- with `earliest` this answers what it answers without under Standard
 abbrev pub EarliestIsStandard : {X : Type 0} → (Built → InputView → X) → Type 0
@@ -99,29 +55,13 @@ EarliestIsStandard answer =
     ≡ answer (record built { kind = Standard }) (record input { earliest = false })
 
 module _ (kind : MatchKind) (q : Search) (last : Option ℕ) where
-  -- without a next match the walk has ended
-  abbrev pub WalkEnds : Type 0
-  WalkEnds = next_match kind q last ≡ None → walk_after kind q last ≡ []
-
   -- the walk is the next match, and then the walk from its end on
   abbrev pub WalkGoesOn : Type 0
   WalkGoesOn =
       (m : Occurrence) → next_match kind q last ≡ Some m
       → walk_after kind q last ≡ m ∷ walk_after kind (from q m.end) (Some m.end)
 
--- how many matches a walk has at most: one more than the span has bytes
-abbrev pub most_matches : InputView → ℕ
-most_matches input = input.end + 1 - input.start
-
--- under Standard the walk over the span up to this end is those matches of the whole walk that end by there
-abbrev pub WalkBegins : Search → ℕ → Type 0
-WalkBegins q end = walk Standard (record q { high = end }) ≡ filter (λ m. nat_le m.end end) (walk Standard q)
-
 module _ (built : Built) (bytes more : List ℕ) where
-  -- the matches of a stream of which these bytes came are the first ones when more of it comes
-  abbrev pub MatchesStay : Type 0
-  MatchesStay = take (length (stream_result built bytes)) (stream_result built (bytes ++ more)) ≡ stream_result built bytes
-
   -- so many of the matches stay, and no other match starts before an offset
   abbrev pub FirstMatchesStay : ℕ → ℕ → Type 0
   FirstMatchesStay given place =
@@ -135,15 +75,11 @@ module _ (built : Built) (bytes more : List ℕ) where
       → FirstMatchesStay given place
 
 module _ (built : Built) (bytes : List ℕ) where
-  -- m is the first match of a stream from an offset on, whatever follows these bytes
-  abbrev pub StaysFirst : ℕ → Occurrence → Type 0
-  StaysFirst low m =
-      (more : List ℕ) → pick built.kind (from (search_in built (whole_input (bytes ++ more))) low) ≡ Some m
-
   -- where that is so of a match within the bytes under a leftmost kind, no offset from there up to its start is open
   abbrev pub StayingIsDecided : Type 0
   StayingIsDecided =
-      (low : ℕ) (m : Occurrence) → is_leftmost built.kind ≡ true → m.end ≤ length bytes → StaysFirst low m
+      (low : ℕ) (m : Occurrence) → is_leftmost built.kind ≡ true → m.end ≤ length bytes
+      → ((more : List ℕ) → pick built.kind (from (search_in built (whole_input (bytes ++ more))) low) ≡ Some m)
       → NoneOpen built bytes low (m.start + 1)
 
 -- where a stream is settled under Standard, of which these bytes came, the replaced text so far is all of the replaced text but

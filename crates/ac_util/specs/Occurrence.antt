@@ -1,5 +1,5 @@
 -- Occurrences of patterns, and what a search is asked.
-use Rattle.std.specs.Prelude.{ℕ, ◌≡◌, ◌+◌, ◌≤◌, ◌⊎◌, Bool, ◌==◌, List, map, bytes_eq, if◌then◌else◌, ◌<◌, true, ◌&&◌, nat_lt, nat_le, [], length, slice_range, slice_index_or}
+use Rattle.std.specs.Prelude.{ℕ, ◌≡◌, ◌+◌, ◌≤◌, Bool, ◌==◌, List, map, bytes_eq, if◌then◌else◌, ◌<◌, true, ◌&&◌, nat_lt, nat_le, [], length, slice_range, slice_index_or}
 use Rattle.std.specs.Char.{to_ascii_lowercase}
 use Rattle.ac_util.specs.declared.search.Anchored.{Anchored}
 use Rattle.ac_util.specs.declared.search.Anchored.TheVariants.{No, Yes}
@@ -31,10 +31,6 @@ pub record IsCapitalOf (a b : ℕ) : Type 0 where
   pub from_A : 65 ≤ a
   pub to_Z : a ≤ 90
   pub small : b ≡ a + 32
-
--- a and b are one ASCII letter in its two cases
-abbrev pub AreOneLetter : ℕ → ℕ → Type 0
-AreOneLetter a b = IsCapitalOf a b ⊎ IsCapitalOf b a
 
 -- two strings are the same: they have one length, and are the same byte by byte
 abbrev pub IsSame : Bool → List ℕ → List ℕ → Type 0

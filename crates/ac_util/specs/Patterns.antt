@@ -1,9 +1,9 @@
 -- Lists of patterns: their bytes, their sizes, and the limits of these.
-use Rattle.std.specs.Prelude.{ℕ, List, map, ◌≡◌, ◌≤◌, [], ◌∷◌, slice_range, ◌+◌, ◌-◌, nat_lt, Option, None, Some, Result, Err, MatchOption, MatchResult, length, All, if◌then◌else◌, not, take, filter, flat_map, bytes_eq, min, max}
+use Rattle.std.specs.Prelude.{ℕ, List, map, ◌≡◌, ◌≤◌, [], ◌∷◌, slice_range, ◌+◌, ◌-◌, nat_lt, Option, None, Some, Result, Err, MatchOption, length, All, if◌then◌else◌, not, take, filter, flat_map, bytes_eq, min, max}
 use Rattle.std.specs.Borrow.{Bor}
 use Rattle.ac_util.specs.declared.primitives.TheConstants.{GREATEST}
 use Rattle.ac_util.specs.declared.error.BuildError.{BuildError}
-use Rattle.ac_util.specs.declared.error.BuildError.TheVariants.{Memory, PatternIdOverflow, PatternTooLong}
+use Rattle.ac_util.specs.declared.error.BuildError.TheVariants.{PatternIdOverflow, PatternTooLong}
 use Rattle.std.specs.List.{range_with_len}
 use Rattle.ac_util.specs.declared.search.MatchKind.{MatchKind}
 use Rattle.ac_util.specs.Occurrence.{pattern_of}
@@ -47,10 +47,6 @@ limit_refusal patterns =
 abbrev pub IsCheckedFirst : {X : Type 0} → List (List ℕ) → Result X BuildError → Type 0 → Type 0
 IsCheckedFirst patterns result otherwise =
     MatchOption (limit_refusal patterns) otherwise (λ refusal. result ≡ Err refusal)
-
--- the patterns were stored, or memory was refused
-abbrev pub AreStored : List (List ℕ) → Result (List (List ℕ)) BuildError → Type 0
-AreStored patterns result = MatchResult result (λ stored. stored ≡ patterns) (λ e. e ≡ Memory)
 
 -- the greatest number that a usize has
 abbrev pub usize_max : ℕ

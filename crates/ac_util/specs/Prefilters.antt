@@ -1,5 +1,5 @@
 -- How a search may skip ahead to where a match can start, and what is known of what it skips.
-use Rattle.std.specs.Prelude.{◌≡◌, ◌⊎◌, ℕ, ◌<◌, ◌≤◌, Bool, false, ◌&&◌, ◌||◌, nat_le, not, ◌==◌, true, List, [], ◌∷◌, length, filter, slice_index_or, Option, None, Some, IfSome, MatchOption, option_map, if◌then◌else◌}
+use Rattle.std.specs.Prelude.{◌≡◌, ◌⊎◌, ℕ, ◌<◌, ◌≤◌, Bool, false, ◌&&◌, nat_le, not, ◌==◌, true, List, [], ◌∷◌, length, filter, slice_index_or, Option, None, Some, IfSome, MatchOption, option_map, if◌then◌else◌}
 use Rattle.std.specs.List.{list_any, range_with_len}
 use Rattle.std.specs.Option.{is_some}
 use Rattle.ac_util.specs.declared.prefilter.Candidate.{Candidate}
@@ -13,7 +13,6 @@ use Rattle.ac_util.specs.declared.search.Anchored.TheVariants.{No, Yes}
 use Rattle.ac_util.specs.declared.search.MatchKind.{MatchKind}
 use Rattle.ac_util.specs.declared.search.MatchKind.TheVariants.{Standard}
 use Rattle.memchr.specs.Find.{IsFirst, Passes}
-use Rattle.ac_util.specs.Classes.{is_in}
 use Rattle.ac_util.specs.Node.{is_empty}
 use Rattle.ac_util.specs.Occurrence.{Occurrence, plain_byte, same_byte, Search, Occurs}
 use Rattle.ac_util.specs.Pick.{pick}
@@ -94,11 +93,6 @@ is_marked ignores_case marks b = slice_index_or marks (plain_byte ignores_case b
 -- the marks say of each byte what the test says
 abbrev pub AreMarksOf : Bool → List Bool → (ℕ → Bool) → Type 0
 AreMarksOf ignores_case marks test = (b : ℕ) → is_marked ignores_case marks b ≡ test b
-
--- the bytes of a pattern were marked too
-abbrev pub AddsMarks : Bool → List Bool → List Bool → List ℕ → Type 0
-AddsMarks ignores_case old new pattern =
-    AreMarksOf ignores_case new (λ b. is_marked ignores_case old b || is_in ignores_case pattern b)
 
 -- the bytes whose plain byte is marked, in ascending order
 abbrev pub marked : Bool → List Bool → List ℕ

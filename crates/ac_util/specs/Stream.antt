@@ -227,14 +227,11 @@ module _ (built : Built) (write : Occurrence → List ℕ → List ℕ) where
   exchanged_to bytes given place = exchanged_from (take place bytes) write 0 (take given (stream_result built bytes))
 
 module _ (built : Built) (texts : List (List ℕ)) (old new : Writing) where
-  -- all bytes of the stream with their matches exchanged for texts
-  abbrev pub stream_replaced : List ℕ → List ℕ
-  stream_replaced bytes = replaced bytes texts (stream_result built bytes)
-
   -- the stream was read to its end, usize counts its bytes, and its replaced text was written
   abbrev pub ReplacesStream : Bool → Reading → Reading → Type 0
   ReplacesStream ends reader new_reader =
-      (bytes : List ℕ) × ReadsAll ends reader new_reader bytes × WritesAll old new (stream_replaced bytes)
+      (bytes : List ℕ) × ReadsAll ends reader new_reader bytes
+      × WritesAll old new (replaced bytes texts (stream_result built bytes))
       × (length bytes ≤ usize_max)
 
   -- the replaced text was written as far as the stream is settled, of which these bytes came

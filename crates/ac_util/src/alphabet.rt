@@ -1,7 +1,7 @@
 //! Classes of bytes that an automaton need not distinguish, which make its rows of transitions short.
-ghost use Rattle.std.specs.Prelude.{◌≡◌, ℕ, ◌<◌, ◌≤◌};
-ghost use Rattle.ac_util.specs.Classes.{alphabet_len, class_at, classes_of, singletons, is_in_patterns, stride, stride2};
-ghost use Rattle.ac_util.specs.Prefilters.{AddsMarks, AreMarksOf};
+ghost use Rattle.std.specs.Prelude.{◌≡◌, ℕ, ◌<◌, ◌≤◌, ◌||◌};
+ghost use Rattle.ac_util.specs.Classes.{alphabet_len, class_at, classes_of, singletons, is_in_patterns, stride, stride2, is_in};
+ghost use Rattle.ac_util.specs.Prefilters.{AreMarksOf, is_marked};
 
 use crate::patterns::{Patterns, plain_byte};
 use std::alloc::Allocator;
@@ -117,7 +117,8 @@ fn marks_of<A: Allocator>(patterns: &Patterns<A>, ignores_case: bool) -> [bool; 
 
 /// Marks the plain bytes of one pattern too.
 fn mark(marks: &mut [bool; 256], pattern: &[u8], ignores_case: bool)
-    ensures { AddsMarks ignores_case marks.old marks.new pattern.now }
+    ensures { AreMarksOf ignores_case marks.new
+        (λ b. is_marked ignores_case marks.old b || is_in ignores_case pattern.now b) }
 {
     for &byte in pattern {
         marks[plain_byte(ignores_case, byte) as usize] = true;

@@ -1,6 +1,6 @@
 //! Readers and writers: where the bytes of a stream come from, and where they go.
-ghost use Rattle.std.specs.Prelude.{Bool};
-ghost use Rattle.ac_util.specs.Device.{IsIoErrorOf, Reading, Reads, Writing, Writes, WritesOrFails};
+ghost use Rattle.std.specs.Prelude.{Bool, MatchResult};
+ghost use Rattle.ac_util.specs.Device.{IsIoErrorOf, Reading, Reads, Writing, Writes, WritesAll, WritesUntilFailure};
 
 mod adapters;
 mod memory;
@@ -85,7 +85,9 @@ impl From<WriteError> for io::Error {
 /// `Io` where a write failed, and `WriteZero` where one took no byte: a beginning of the bytes was written then, and
 /// not all of them.
 pub fn write_all<W: Sink>(writer: &mut W, bytes: &[u8]) -> Result<(), WriteError>
-    ensures { WritesOrFails (W.told writer.old) (W.told writer.new) bytes.now result }
+    ensures { MatchResult result
+        (λ _. WritesAll (W.told writer.old) (W.told writer.new) bytes.now)
+        (WritesUntilFailure (W.told writer.old) (W.told writer.new) bytes.now) }
 {
     let mut at = 0;
     while at < bytes.len() {

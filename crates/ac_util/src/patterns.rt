@@ -1,7 +1,8 @@
 //! The patterns of a searcher, which it stores once.
-ghost use Rattle.std.specs.Prelude.{◌≡◌, ◌+◌, ◌<◌, ◌≤◌, length, map, slice_get, Some, Ok};
-ghost use Rattle.ac_util.specs.Patterns.{bytes_of, AreStored, IsCheckedFirst};
+ghost use Rattle.std.specs.Prelude.{◌≡◌, ◌+◌, ◌<◌, ◌≤◌, length, map, slice_get, Some, Ok, MatchResult};
+ghost use Rattle.ac_util.specs.Patterns.{bytes_of, IsCheckedFirst};
 ghost use Rattle.ac_util.specs.Occurrence.{plain_byte};
+ghost use Rattle.ac_util.specs.declared.error.BuildError.TheVariants.{Memory};
 
 use crate::error::BuildError;
 use crate::primitives::{GREATEST, PatternID};
@@ -72,7 +73,8 @@ impl<A: Allocator + Clone> Patterns<A> {
     /// `PatternIdOverflow` and `PatternTooLong` exactly where a limit is passed, checked over the whole list in this
     /// order, whether there is memory or not; else `Memory` where a request for memory is refused.
     pub fn new(alloc: A, patterns: &[&[u8]]) -> Result<Patterns<A>, BuildError>
-        ensures { IsCheckedFirst (bytes_of patterns.now) result (AreStored (bytes_of patterns.now) result) }
+        ensures { IsCheckedFirst (bytes_of patterns.now) result (MatchResult result
+            (λ stored. stored ≡ (bytes_of patterns.now)) (λ e. e ≡ Memory)) }
     {
         check_limits(patterns)?;
         let mut pieces = Pieces::new(alloc)?;

@@ -1,6 +1,5 @@
 //! The options of a search, and what it returns: match kinds, anchoring, spans and matches.
 ghost use Rattle.std.specs.Prelude.{◌≡◌, ◌+◌, ◌-◌, ◌<◌, ◌≤◌, ◌↔◌, IsTrue};
-ghost use Rattle.ac_util.specs.Input.{HasOffset};
 ghost use Rattle.ac_util.specs.Node.{is_leftmost};
 ghost use Rattle.ac_util.specs.Occurrence.{occurrence};
 ghost use Rattle.ac_util.specs.Patterns.{usize_max};
@@ -126,7 +125,8 @@ impl Span {
     /// Returns whether an offset lies in the span or is its end. No offset lies in a span without bytes. See the
     /// example of `Span`.
     pub fn contains(&self, offset: usize) -> bool
-        ensures { IsTrue result ↔ HasOffset self.now offset }
+        ensures { IsTrue result
+            ↔ ((self.now.start < self.now.end) × (self.now.start ≤ offset) × (offset ≤ self.now.end)) }
     {
         !self.is_empty() && self.start <= offset && offset <= self.end
     }

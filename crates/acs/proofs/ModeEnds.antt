@@ -1,7 +1,7 @@
 -- How modes end: a replacement in memory, and the modes on a stream.
 use Rattle.std.proofs.Common.{◌≡◌, ℕ, List, [], ◌++◌, append-nil, ap, refl, sym, ◌∙◌, inl, inr, ◌⊎◌, Bool, false, true, None, rules, arith}
 use Rattle.std.proofs.lemmas.List.{take_all}
-use Rattle.std.specs.Prelude.{MatchResult, Result, Ok, Err}
+use Rattle.std.specs.Prelude.{MatchResult, Result, Ok, Err, option_map, Some}
 use Rattle.std.proofs.lemmas.Grind.{common_steps}
 use Rattle.ac_search.specs.declared.WriteError.{WriteError}
 use Rattle.ac_search.specs.declared.WriteError.TheVariants.{Io as WriteFailed, WriteZero as WroteNothing}
@@ -22,9 +22,10 @@ use Rattle.acs.specs.declared.request.Mode.{Mode}
 use Rattle.acs.specs.declared.request.Mode.TheVariants.{Replace, Stream, StreamReplace}
 use Rattle.acs.specs.declared.run.Outcome.{Outcome}
 use Rattle.acs.specs.declared.run.Outcome.TheVariants.{Found}
-use Rattle.acs.specs.Faults.{stream_fault_of}
-use Rattle.acs.specs.Modes.{AnswersOrFails, FailsAtFirst, FailsToAnswer, FailsToWrite, WritesSettled, mode_refusal}
+use Rattle.acs.specs.Faults.{stream_fault_of, refusal_fault_of}
+use Rattle.acs.specs.Modes.{AnswersOrFails, FailsToAnswer, FailsToWrite, WritesSettled, mode_refusal}
 use Rattle.acs.specs.Printed.{FailsToPrintStream, PrintsStream}
+use Rattle.acs.specs.declared.fault.Fault.TheVariants.{Memory}
 
 -- the fault of a write that has failed, or took nothing
 write-fails : {old new : Writing} {bytes : List ℕ} {fault : Fault} (failure : WriteError)
@@ -58,7 +59,8 @@ module _ (built : Built) (texts : List (List ℕ)) (ends : Bool) (reader new_rea
   -- the searcher refuses the mode, or memory was refused
   pub refused-first : (mode : Mode) (unchanged : Type 0) (e : StreamError) (fault : Fault) → fault ≡ stream_fault_of e
       → (unchanged → (new_reader ≡ reader) × (new_writer ≡ writer)) → IsStreamRefused (mode_refusal mode built) unchanged e
-      → FailsAtFirst ends mode built texts reader new_reader writer new_writer fault
+      → (((option_map refusal_fault_of (mode_refusal mode built) ≡ Some fault) ⊎ (fault ≡ Memory))
+      × (new_reader ≡ reader) × (new_writer ≡ writer))
   refused-first mode unchanged (Refused m) fault is same refusal = grind (arith, common_steps)
   refused-first mode unchanged NoBuffer fault is same refusal = grind (arith, common_steps)
   refused-first mode unchanged (DeviceFailed e) fault is same refusal = absurd refusal

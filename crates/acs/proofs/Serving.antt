@@ -11,9 +11,9 @@ use Rattle.acs.specs.declared.fault.Fault.{Fault}
 use Rattle.acs.specs.declared.request.Mode.{Mode}
 use Rattle.acs.specs.declared.request.Request.{Request}
 use Rattle.acs.specs.declared.run.Outcome.{Outcome}
-use Rattle.acs.specs.Modes.{AnswersOrFails}
-use Rattle.acs.specs.Requests.{built_for, patterns_in, settings_of, texts_in}
-use Rattle.acs.specs.Runs.{HasFailed, HasRun, IsServable}
+use Rattle.acs.specs.Modes.{AnswersOrFails, Answers}
+use Rattle.acs.specs.Requests.{built_for, patterns_in, settings_of, texts_among}
+use Rattle.acs.specs.Runs.{HasFailed, IsServable}
 
 -- a request of this mode has its searcher, which was built from this
 pub record IsServing (request : Request) (words : List (List ℕ)) (mode : Mode) (built : Built) : Type 0 where
@@ -30,8 +30,10 @@ module _ {request : Request} {words : List (List ℕ)} {mode : Mode} {built : Bu
     (ends : Bool) (reader new_reader : Reading) (writer new_writer : Writing) where
   -- what the mode answers the run does
   pub run-by : (r : Result Outcome Fault)
-      → AnswersOrFails ends mode built (texts_in mode words) reader new_reader writer new_writer r
-      → MatchResult r (HasRun ends request words reader new_reader writer new_writer)
+      → AnswersOrFails ends mode built (texts_among mode words) reader new_reader writer new_writer r
+      → MatchResult r (λ outcome. IsServable request words
+      × Answers ends request.mode (built_for request words) (texts_among request.mode words) reader new_reader
+      writer new_writer outcome)
       (HasFailed ends request words reader new_reader writer new_writer)
   run-by (Ok outcome) answers = grind (arith, common_steps)
   run-by (Err fault) fails = grind (arith, common_steps)

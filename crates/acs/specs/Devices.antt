@@ -1,5 +1,5 @@
 -- What runs do, by the reader, the writer and the device for errors that they are handed.
-use Rattle.std.specs.Prelude.{◌≡◌, ℕ, List, [], IfErr, IfOk, MatchResult, Option, Result, String}
+use Rattle.std.specs.Prelude.{ℕ, List, [], IfOk, MatchResult, Option, Result, String}
 use Rattle.std.specs.Borrow.{Bor}
 use Rattle.std.specs.Iterator.{Drains}
 use Rattle.std.specs.declared.alloc.Global.{Global}
@@ -7,10 +7,8 @@ use Rattle.ac_search.specs.declared.Sink.{Ghosts as Sink}
 use Rattle.ac_search.specs.declared.Source.{Ghosts as Source}
 use Rattle.ac_search.specs.Patterns.{bytes_of}
 use Rattle.ac_search.specs.Built.{Built}
-use Rattle.ac_search.specs.Device.{Reading, Writing}
 use Rattle.ac_search.specs.Searchers.{Searcher}
 use Rattle.acs.specs.declared.fault.Fault.{Fault}
-use Rattle.acs.specs.declared.fault.Fault.TheVariants.{Memory}
 use Rattle.acs.specs.declared.request.Mode.{Mode}
 use Rattle.acs.specs.declared.request.Request.{Request}
 use Rattle.acs.specs.declared.run.Outcome.{Outcome}
@@ -27,8 +25,8 @@ module _ {R W : Type 0} (source : Source R) (sink : Sink W) where
       (sink.told writer) (sink.told new_writer) result
 
   -- the same of a mode that exchanges matches for the texts among these words
-  abbrev pub Replaces : Mode → Searcher → List (Bor (List ℕ)) → R → R → W → W → Result Outcome Fault → Type 0
-  Replaces mode searcher words reader new_reader writer new_writer result =
+  abbrev pub ReplacesOn : Mode → Searcher → List (Bor (List ℕ)) → R → R → W → W → Result Outcome Fault → Type 0
+  ReplacesOn mode searcher words reader new_reader writer new_writer result =
       AnswersOrFails source.empty_means_end mode searcher.built (seconds (bytes_of words)) (source.told reader)
       (source.told new_reader) (sink.told writer) (sink.told new_writer) result
 
@@ -68,11 +66,3 @@ module _ {R W E : Type 0} (source : Source R) (sink : Sink W) (reports : Sink E)
       (λ status. (given : List (String Global)) × Drains steps arguments given
       × HasEnded source.empty_means_end (words_among given) (source.told reader) (source.told new_reader)
       (sink.told writer) (sink.told new_writer) (reports.told errors) (reports.told new_errors) status)
-
--- where the run on arguments failed, memory was refused before anything was read, written or reported
-abbrev pub NeverRuns : {R W E : Type 0} → (R → Reading) → (W → Writing) → (E → Writing) → R → R → W → W → E → E
-    → Result ℕ Fault → Type 0
-NeverRuns told wrote reported reader new_reader writer new_writer errors new_errors result =
-    IfErr result
-    (λ fault. (fault ≡ Memory) × (told new_reader ≡ told reader) × (wrote new_writer ≡ wrote writer)
-    × (reported new_errors ≡ reported errors))

@@ -90,18 +90,6 @@ module _ (ends : Bool) (mode : Mode) (built : Built) (texts : List (List ℕ)) (
     pub writes : WritesAll writer new_writer (output_of mode built texts haystack).text
     pub outcome_is : outcome ≡ (output_of mode built texts haystack).outcome
 
-  -- the searcher refuses the mode, or memory was refused: reader and writer are as they were
-  abbrev pub FailsAtFirst : Fault → Type 0
-  FailsAtFirst fault =
-      ((option_map refusal_fault_of (mode_refusal mode built) ≡ Some fault) ⊎ (fault ≡ Memory))
-      × (new_reader ≡ reader)
-      × (new_writer ≡ writer)
-
-  -- the mode wasn't refused, and has failed while it read, with nothing written
-  abbrev pub FailsReading : Fault → Type 0
-  FailsReading fault =
-      (mode_refusal mode built ≡ None) × FailsToReadAll reader new_reader fault × (new_writer ≡ writer)
-
   -- or while it wrote, with all read that the reader gave
   pub record FailsPrinting (fault : Fault) : Type 0 where
     pub served : mode_refusal mode built ≡ None
@@ -126,11 +114,13 @@ module _ (ends : Bool) (mode : Mode) (built : Built) (texts : List (List ℕ)) (
   abbrev pub FailsLater : Mode → Fault → Type 0
   FailsLater Stream fault = FailsStreaming fault
   FailsLater StreamReplace fault = FailsStreaming fault
-  FailsLater other fault = FailsReading fault ⊎ FailsPrinting fault
+  FailsLater other fault = ((mode_refusal mode built ≡ None) × FailsToReadAll reader new_reader fault
+      × (new_writer ≡ writer)) ⊎ FailsPrinting fault
 
   -- the mode has failed for its cause: before the first read, or later
   abbrev pub FailsToAnswer : Fault → Type 0
-  FailsToAnswer fault = FailsAtFirst fault ⊎ FailsLater mode fault
+  FailsToAnswer fault = (((option_map refusal_fault_of (mode_refusal mode built) ≡ Some fault) ⊎ (fault ≡ Memory))
+      × (new_reader ≡ reader) × (new_writer ≡ writer)) ⊎ FailsLater mode fault
 
   -- it has answered, or failed
   abbrev pub AnswersOrFails : Result Outcome Fault → Type 0

@@ -60,10 +60,6 @@ request_of words = None
 abbrev pub words_among : {A : Type 0} → List (String A) → List (List ℕ)
 words_among arguments = drop 1 (map string_bytes arguments)
 
--- the words after these three
-abbrev pub words_after : List (List ℕ) → List (List ℕ)
-words_after words = drop 3 words
-
 -- the first word of each pair, where words stand in pairs, and the second
 abbrev pub firsts : List (List ℕ) → List (List ℕ)
 firsts (first ∷ second ∷ words) = first ∷ firsts words
@@ -84,10 +80,10 @@ patterns_in Replace words = firsts words
 patterns_in StreamReplace words = firsts words
 patterns_in mode words = words
 
-abbrev pub texts_in : Mode → List (List ℕ) → List (List ℕ)
-texts_in Replace words = seconds words
-texts_in StreamReplace words = seconds words
-texts_in mode words = []
+abbrev pub texts_among : Mode → List (List ℕ) → List (List ℕ)
+texts_among Replace words = seconds words
+texts_among StreamReplace words = seconds words
+texts_among mode words = []
 
 -- what the searcher is built by
 abbrev pub settings_of : Request → Settings

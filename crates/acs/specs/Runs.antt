@@ -1,8 +1,8 @@
 -- What a run of the program does to its reader and its writer.
-use Rattle.std.specs.Prelude.{◌≡◌, ◌⊎◌, ℕ, ◌++◌, Bool, List, codes, MatchOption, MatchResult, Result, Ok, Err}
+use Rattle.std.specs.Prelude.{◌≡◌, ◌⊎◌, ℕ, ◌++◌, Bool, List, codes, MatchOption, MatchResult, Result, Ok, Err, drop}
 use Rattle.ac_search.specs.Device.{Reading, Writing, WritesAll}
 use Rattle.ac_search.specs.Builds.{IsAllowed}
-use Rattle.ac_search.specs.Searchers.{IsBuilt, Searcher, engine_refusal}
+use Rattle.ac_search.specs.Searchers.{engine_refusal}
 use Rattle.acs.specs.declared.fault.Fault.{Fault}
 use Rattle.acs.specs.declared.fault.Fault.TheVariants.{Usage}
 use Rattle.acs.specs.declared.request.Request.{Request}
@@ -10,12 +10,7 @@ use Rattle.acs.specs.declared.run.Outcome.{Outcome}
 use Rattle.acs.specs.Faults.{IsRefusal, line_of}
 use Rattle.acs.specs.Lines.{status_of}
 use Rattle.acs.specs.Modes.{Answers, FailsToAnswer, FailsToWrite}
-use Rattle.acs.specs.Requests.{built_for, patterns_in, request_of, settings_of, texts_in, words_after}
-
--- the searcher that is asked for was built over these patterns, or refused
-abbrev pub BuildsFor : Request → List (List ℕ) → Result Searcher Fault → Type 0
-BuildsFor request patterns result =
-    MatchResult result (IsBuilt (settings_of request) patterns) (IsRefusal (settings_of request) patterns)
+use Rattle.acs.specs.Requests.{built_for, patterns_in, request_of, settings_of, texts_among}
 
 -- no limit refuses the searcher for a request with these words
 abbrev pub IsServable : Request → List (List ℕ) → Type 0
@@ -24,13 +19,6 @@ IsServable request words =
 
 module _ (ends : Bool) (request : Request) (words : List (List ℕ)) (reader new_reader : Reading)
     (writer new_writer : Writing) where
-  -- no limit refused the searcher, and by it the mode was answered
-  abbrev pub HasRun : Outcome → Type 0
-  HasRun outcome =
-      IsServable request words
-      × Answers ends request.mode (built_for request words) (texts_in request.mode words) reader new_reader writer new_writer
-      outcome
-
   -- the run has ended with a fault, for its cause. The searcher was refused, by a limit of the list where one is passed:
   -- reader and writer are as they were. Or no limit refused it, and by it the mode has failed
   abbrev pub HasFailed : Fault → Type 0
@@ -39,12 +27,17 @@ module _ (ends : Bool) (request : Request) (words : List (List ℕ)) (reader new
       × (new_reader ≡ reader)
       × (new_writer ≡ writer))
       ⊎ (IsServable request words
-      × FailsToAnswer ends request.mode (built_for request words) (texts_in request.mode words) reader new_reader
+      × FailsToAnswer ends request.mode (built_for request words) (texts_among request.mode words) reader new_reader
       writer new_writer fault)
 
   -- it has run, or failed for its cause
   abbrev pub RunsOrFails : Result Outcome Fault → Type 0
-  RunsOrFails result = MatchResult result HasRun HasFailed
+  RunsOrFails result =
+      MatchResult result
+      (λ outcome. IsServable request words
+      × Answers ends request.mode (built_for request words) (texts_among request.mode words) reader new_reader writer new_writer
+      outcome)
+      HasFailed
 
 -- the run has answered the words after the program's name: they ask for nothing that there is, and reader and writer
 -- are as they were; or for something, and it has run, or failed for its cause
@@ -52,7 +45,7 @@ abbrev pub HasAnswered : Bool → List (List ℕ) → Reading → Reading → Wr
 HasAnswered ends words reader new_reader writer new_writer answered =
     MatchOption (request_of words)
     ((answered ≡ Err Usage) × (new_reader ≡ reader) × (new_writer ≡ writer))
-    (λ request. RunsOrFails ends request (words_after words) reader new_reader writer new_writer answered)
+    (λ request. RunsOrFails ends request (drop 3 words) reader new_reader writer new_writer answered)
 
 -- what is reported of a fault: its line with a line end
 abbrev pub message_of : Fault → List ℕ

@@ -5,7 +5,7 @@ ghost use Rattle.ac_search.specs.declared.StartKind.TheVariants.{Unanchored};
 ghost use Rattle.ac_search.specs.Patterns.{bytes_of};
 ghost use Rattle.acs.specs.declared.fault.Fault.TheVariants.{OverlappingKind};
 ghost use Rattle.acs.specs.declared.request.Mode.TheVariants.{Find, Overlap, Replace, Stream, StreamReplace, Walk};
-ghost use Rattle.acs.specs.Devices.{AnswersOn, Replaces};
+ghost use Rattle.acs.specs.Devices.{AnswersOn, ReplacesOn};
 ghost use Rattle.acs.specs.Requests.{firsts};
 
 use crate::fault::Fault;
@@ -103,7 +103,7 @@ pub(crate) fn replace<A: Allocator + Clone, R: Source, W: Sink>(
 ) -> Result<Outcome, Fault>
     requires unanchored { searcher.now.built.start_kind ≡ Unanchored }
     requires patterns { searcher.now.built.patterns ≡ firsts (bytes_of words.now) }
-    ensures { Replaces R.Source W.Sink Replace searcher.now words.now reader.old reader.new writer.old writer.new result }
+    ensures { ReplacesOn R.Source W.Sink Replace searcher.now words.now reader.old reader.new writer.old writer.new result }
 {
     let haystack = read_all(alloc.clone()?, reader)?;
     let texts = texts_of(alloc.clone()?, words)?;
@@ -124,7 +124,7 @@ pub(crate) fn replace_stream<A: Allocator + Clone, R: Source, W: Sink>(
     writer: &mut W,
 ) -> Result<Outcome, Fault>
     requires patterns { searcher.now.built.patterns ≡ firsts (bytes_of words.now) }
-    ensures { Replaces R.Source W.Sink StreamReplace searcher.now words.now reader.old reader.new writer.old writer.new result }
+    ensures { ReplacesOn R.Source W.Sink StreamReplace searcher.now words.now reader.old reader.new writer.old writer.new result }
 {
     let texts = texts_of(alloc.clone()?, words)?;
     settled_begins_whole();

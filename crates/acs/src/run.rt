@@ -1,10 +1,14 @@
 //! The program over any reader and writer.
-ghost use Rattle.std.specs.Prelude.{◌≡◌};
+ghost use Rattle.std.specs.Prelude.{◌≡◌, IfErr, MatchResult};
 ghost use Rattle.std.specs.Iterator.{IsFinite};
 ghost use Rattle.ac_search.specs.Patterns.{bytes_of};
-ghost use Rattle.acs.specs.Devices.{EndsOn, EndsOnAll, HasAnsweredOn, NeverRuns, RunsOn};
+ghost use Rattle.acs.specs.Devices.{EndsOn, EndsOnAll, HasAnsweredOn, RunsOn};
 ghost use Rattle.acs.specs.Lines.{status_of};
-ghost use Rattle.acs.specs.Runs.{BuildsFor, HasReported};
+ghost use Rattle.acs.specs.Runs.{HasReported};
+ghost use Rattle.acs.specs.declared.fault.Fault.TheVariants.{Memory};
+ghost use Rattle.ac_search.specs.Searchers.{IsBuilt};
+ghost use Rattle.acs.specs.Requests.{settings_of};
+ghost use Rattle.acs.specs.Faults.{IsRefusal};
 
 use crate::fault::Fault;
 use crate::modes::{find, overlap, replace, replace_stream, stream, walk};
@@ -80,8 +84,8 @@ pub(crate) fn run_on_arguments<
     requires finite { IsFinite (I.remaining arguments) }
     ensures ended { EndsOnAll R.Source W.Sink E.Sink I.next_gives arguments reader.old reader.new writer.old writer.new
         errors.old errors.new result }
-    ensures refused { NeverRuns R.told W.told E.told reader.old reader.new writer.old writer.new
-        errors.old errors.new result }
+    ensures refused { IfErr result (λ fault. (fault ≡ Memory) × (R.told reader.new ≡ R.told reader.old)
+        × (W.told writer.new ≡ W.told writer.old) × (E.told errors.new ≡ E.told errors.old)) }
 {
     let arguments: Vec<String, A> = arguments.collect(alloc.clone()?)?;
     let words = words_among(alloc.clone()?, &arguments)?;
@@ -151,7 +155,8 @@ fn searcher_for<A: Allocator + Clone>(
     request: Request,
     patterns: &[&[u8]],
 ) -> Result<AhoCorasick<A>, Fault>
-    ensures { BuildsFor request (bytes_of patterns.now) result }
+    ensures { MatchResult result (IsBuilt (settings_of request) (bytes_of patterns.now))
+        (IsRefusal (settings_of request) (bytes_of patterns.now)) }
 {
     let mut builder = AhoCorasickBuilder::new();
     builder.match_kind(request.kind);

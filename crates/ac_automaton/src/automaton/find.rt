@@ -1,10 +1,11 @@
 //! The core of every find.
-ghost use Rattle.std.specs.Prelude.{◌≡◌, ◌≤◌, ◌↔◌, false, true, IsTrue, None};
+ghost use Rattle.std.specs.Prelude.{◌≡◌, ◌≤◌, ◌↔◌, false, true, IsTrue, None, MatchOption};
 ghost use Rattle.ac_automaton.specs.Util.{Standard, start_refusal};
-ghost use Rattle.ac_automaton.specs.Answers.{BeginsFinder};
+ghost use Rattle.ac_automaton.specs.Answers.{BeginsBy};
 ghost use Rattle.ac_automaton.specs.Finds.{asked, between, finding_of, FindsIn, found_by, MaySearch};
-ghost use Rattle.ac_automaton.specs.Onward.{BeginsOnward};
+ghost use Rattle.ac_automaton.specs.Onward.{BeginsPast};
 ghost use Rattle.ac_automaton.specs.Scans.{tape_with};
+ghost use Rattle.ac_automaton.specs.Iterators.{reads_past_by};
 
 use super::Automaton;
 use super::onward::{Core, Onward, Position};
@@ -94,7 +95,8 @@ impl<'a, A: Automaton> Finder<'a, A> {
         anchored: Anchored,
         earliest: bool,
     ) -> Result<Finder<'a, A>, MatchError>
-        ensures { BeginsFinder (A.seen automaton.now) anchored earliest result }
+        ensures { BeginsBy (A.seen automaton.now) anchored
+            (λ f. f ≡ finding_of (A.seen automaton.now) anchored earliest) result }
     {
         let start = automaton.start_state(anchored)?;
         let free = !anchored.is_anchored() && automaton.min_pattern_len() > 0;
@@ -125,7 +127,8 @@ impl<'a, A: Automaton> Finder<'a, A> {
     /// Returns a walk of a span that reads each byte once, where a walk by these finds may be one.
     #[inline]
     pub(super) fn onward(&self, span: Span) -> Option<Onward<'a, A>>
-        ensures { BeginsOnward A.seen self.now span result }
+        ensures { MatchOption result (reads_past_by self.now.picking.order self.now.anchored self.now.built.patterns
+            ≡ false) (BeginsPast A.seen self.now span) }
     {
         if self.core.stops || !self.free {
             return None;

@@ -1,5 +1,5 @@
 //! The listing of all occurrences: how far it has come in its span, and how it goes on from item to item.
-ghost use Rattle.std.specs.Prelude.{◌≡◌, true, IfSome};
+ghost use Rattle.std.specs.Prelude.{◌≡◌, true, IfSome, List, ℕ};
 ghost use Rattle.ac_automaton.specs.Util.{first_bytes_of};
 
 use super::Automaton;
@@ -40,8 +40,8 @@ impl Reached {
 }
 
 impl<'a, A: Automaton> Scanner<'a, A> {
-    ghost use Rattle.ac_automaton.specs.Overlaps.{HasComeTo, ListsOn, MayList, TakesDue};
-    ghost use Rattle.ac_automaton.specs.Scans.{scanner, SkipsTo};
+    ghost use Rattle.ac_automaton.specs.Overlaps.{ListsOn, MayList, TakesDue, IsListed};
+    ghost use Rattle.ac_automaton.specs.Scans.{scanner, SkipsTo, in_memory};
 
     /// Returns the first bytes to which a listing may skip, in an unanchored search.
     ///
@@ -63,7 +63,8 @@ impl<'a, A: Automaton> Scanner<'a, A> {
     // The match isn't made by `match_ending`, which would look the length up a second time.
     #[inline]
     fn take_due(&self, reached: &mut Reached) -> Option<Match>
-        requires { HasComeTo (scanner A.seen self.now) reached.old }
+        requires { (bytes : List ℕ)
+            × IsListed (scanner A.seen self.now).scan (in_memory bytes (scanner A.seen self.now).span) reached.old }
         ensures { TakesDue (scanner A.seen self.now) reached.old result reached.new }
     {
         let (pattern, rest) = self.automaton.take_match(reached.rest)?;

@@ -8,7 +8,7 @@ ghost use Rattle.ac_util.specs.Prefilters.{first_bytes_of};
 ghost use Rattle.ac_automaton.specs.Util.{No, pattern_of};
 ghost use Rattle.ac_automaton.specs.Scans.{SkipsTo};
 ghost use Rattle.ac_automaton.specs.Automata.{IsState};
-ghost use Rattle.ac_automaton.specs.Finds.{finding_of, place_of};
+ghost use Rattle.ac_automaton.specs.Finds.{finding_of, place_of, between};
 ghost use Rattle.ac_automaton.specs.Reads.{hand_of};
 ghost use Rattle.ac_automaton.specs.Cores.{MayTakeFrom, SkipsToOnly, TakesKnown, end_of};
 ghost use Rattle.ac_automaton.specs.Onward.{BeginsPast};
@@ -76,7 +76,7 @@ pub(super) struct Onward<'a, A: Automaton> {
 }
 
 impl<'a, A: Automaton> Core<'a, A> {
-    ghost use Rattle.ac_automaton.specs.Cores.{begun_by, FitsBefore, GivesHere, GivesIn, Goes, IsCore, IsSearchBy, Leads, MayGo, MayGoOn, Picks, scan_by, scanner_to, spot, Stops};
+    ghost use Rattle.ac_automaton.specs.Cores.{begun_by, FitsBefore, GivesHere, GivesIn, Goes, IsCore, IsSearchBy, Leads, MayGo, MayGoOn, Picks, scan_by, spot, Stops};
 
     /// Returns a walk of a span.
     #[inline]
@@ -312,7 +312,8 @@ impl<'a, A: Automaton> Core<'a, A> {
     // A caller says which, so that only one of the loops that read becomes a part of it.
     #[inline]
     pub(super) fn scanner(&self, stops: bool, end: usize) -> Scanner<'a, A>
-        ensures { result ≡ scanner_to self.now stops end }
+        ensures { result
+            ≡ (record { automaton = self.now.automaton; anchored = No; stops = stops; span = between 0 end }) }
     {
         Scanner {
             automaton: self.automaton,

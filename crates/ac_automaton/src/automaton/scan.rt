@@ -6,7 +6,7 @@ ghost use Rattle.std.specs.Prelude.{◌≡◌, ◌<◌, ◌↔◌, false, true, 
 ghost use Rattle.ac_automaton.specs.Automata.{IsState};
 ghost use Rattle.ac_automaton.specs.Finds.{FindsAt, StandsIn};
 ghost use Rattle.ac_automaton.specs.Overlaps.{is_due};
-ghost use Rattle.ac_automaton.specs.Reads.{MayScan, Scans, StopsAt, TriesAt, at, entered};
+ghost use Rattle.ac_automaton.specs.Reads.{MayScan, Scans, StopsAt, at, entered, Tries};
 ghost use Rattle.ac_automaton.specs.Scans.{TellsOver, scanner, work_of};
 
 use super::Automaton;
@@ -76,7 +76,8 @@ impl<'a, A: Automaton> Scanner<'a, A> {
         requires before { cursor.at < self.now.span.end }
         requires may { MayScan A.seen self.now (at cursor tape.old looks.old) }
         ensures bytes { tape.new.bytes ≡ tape.old.bytes }
-        ensures tries { TriesAt A.seen self.now (at cursor tape.old looks.old) result (work_of tape.new looks.new) }
+        ensures tries { Tries (scanner A.seen self.now).scan (at cursor tape.old looks.old) result.0 result.1
+            (work_of tape.new looks.new) }
     {
         let byte = tape.read(cursor.at, looks);
         let next = self

@@ -5,7 +5,7 @@
 ghost use Rattle.std.specs.Prelude.{◌≤◌, ◌<◌, ◌≡◌, false, true, IfSome, None};
 ghost use Rattle.ac_util.specs.Prefilters.{first_bytes_of};
 ghost use Rattle.ac_automaton.specs.Automata.{IsState};
-ghost use Rattle.ac_automaton.specs.Reads.{GoesAhead, IsAtStart, MayScan, Moves, Scans, Seeks, at};
+ghost use Rattle.ac_automaton.specs.Reads.{IsAtStart, MayScan, Moves, Scans, Seeks, at, Advances};
 ghost use Rattle.ac_automaton.specs.Scans.{MayAdvance, scanner, SkipsTo};
 
 use super::Automaton;
@@ -137,7 +137,8 @@ impl<'a, A: Automaton> Scanner<'a, A> {
         requires stops { self.now.stops ≡ true }
         requires skips { IfSome first (λ f. SkipsTo (scanner A.seen self.now).scan (first_bytes_of f)) }
         requires may { MayAdvance (scanner A.seen self.now) tape.old cursor.old }
-        ensures { GoesAhead A.seen self.now (at cursor.old tape.old looks.old) (at cursor.new tape.new looks.new) }
+        ensures { Advances (scanner A.seen self.now) (at cursor.old tape.old looks.old)
+            (at cursor.new tape.new looks.new) }
     {
         let dead = self.read_to_match_or_skip(first, cursor, budget, tape, looks);
         cursor.enter(dead);

@@ -1,11 +1,11 @@
 //! The search of a stream: what a reader gives is read into a buffer, and its matches are returned one after another.
-ghost use Rattle.std.specs.Prelude.{◌≡◌, ◌≢◌, ◌≤◌, ◌<◌, ◌+◌, ◌-◌, [], None, Some, drop, false, true, length, slice_range, take};
+ghost use Rattle.std.specs.Prelude.{◌≡◌, ◌≢◌, ◌≤◌, ◌<◌, ◌+◌, ◌-◌, [], None, Some, drop, false, true, length, slice_range, take, MatchOption, MatchResult};
 ghost use Rattle.ac_automaton.specs.Util.{is_leftmost, IsNear, No, Reads, Standard};
 ghost use Rattle.ac_automaton.specs.Answers.{BeginsStream};
 ghost use Rattle.ac_automaton.specs.Automata.{IsLiveState, IsState};
 ghost use Rattle.ac_automaton.specs.Commits.{AreCommits, reads_on};
 ghost use Rattle.ac_automaton.specs.declared.automaton.stream_settled.Phase.TheVariants.{Ended, Failed, Open};
-ghost use Rattle.ac_automaton.specs.Streams.{Fills, HasGivenSettled, GivesLast, GivesRead, GivesSettled, ReadsThrough, Streams, kept_len, initial_stream, on};
+ghost use Rattle.ac_automaton.specs.Streams.{Fills, HasGivenSettled, GivesRead, GivesSettled, ReadsThrough, Streams, kept_len, initial_stream, on, HasGivenLast, GivesMatch};
 
 use super::Automaton;
 use super::onward::{ChainRest, Core, Given, byte_of, chain_rest, match_ending, take_next};
@@ -319,7 +319,8 @@ impl<'a, A: Automaton, Z: Allocator> StreamFinder<'a, A, Z> {
     /// Returns the next match once the end was met: nothing is left to read.
     fn next_at_end(&mut self) -> Option<Result<Match, StreamError>>
         requires ended { self.old.phase ≡ Ended }
-        ensures { GivesLast self.old result self.new }
+        ensures { MatchOption result (HasGivenLast self.old self.new)
+            (λ item. MatchResult item (λ m. GivesMatch self.old m self.new) (λ e. ⊥)) }
     {
         match self.next_read() {
             Some(found) => Some(Ok(found)),

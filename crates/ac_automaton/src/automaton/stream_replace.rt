@@ -1,8 +1,8 @@
 //! Replacement in a stream: its bytes are written as they were read, with each match replaced from a list or by a
 //! closure.
-ghost use Rattle.std.specs.Prelude.{◌≡◌, ℕ, ◌<◌, List, [], None, OnOk, Result, length};
+ghost use Rattle.std.specs.Prelude.{◌≡◌, ℕ, ◌<◌, List, [], None, OnOk, Result, length, slice_index_or};
 ghost use Rattle.ac_automaton.specs.Util.{bytes_of, Occurrence, Replacing, stream_refusal, StreamError};
-ghost use Rattle.ac_automaton.specs.Exchanges.{AcceptsMatches, beside, CallsBy, ExchangesRead, Passes, PassesText, ReplacesOrFails, StillAccepts, by_texts, Passing};
+ghost use Rattle.ac_automaton.specs.Exchanges.{AcceptsMatches, beside, CallsBy, ExchangesRead, Passes, ReplacesOrFails, StillAccepts, by_texts, Passing};
 ghost use Rattle.ac_automaton.specs.Streams.{initial_stream};
 
 use super::Automaton;
@@ -76,7 +76,8 @@ impl<'t, W: Sink> Exchange<W> for ByTexts<'t> {
 
     ghost passing = { by_texts W.told };
 
-    ghost calls = { λ m slice s r t. PassesText (by_texts W.told) (bytes_of s.closure.texts.now) m s r t };
+    ghost calls = { λ m slice s r t. Passes (by_texts W.told)
+        (slice_index_or (bytes_of s.closure.texts.now) m.pattern []) s r t };
 
     fn pass(&mut self, bytes: &[u8], writer: &mut W) -> Result<(), StreamError> {
         self.gathered.write(writer, bytes)?;

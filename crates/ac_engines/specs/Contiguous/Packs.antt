@@ -1,6 +1,5 @@
 -- Packing states one after another.
 use Rattle.std.specs.Prelude.{◌≡◌, ℕ, ◌+◌, ◌<◌, ◌≤◌, Bool, List, [], ◌++◌, drop, IfOk, length, nat_eq, Result, slice_get, Some, if◌then◌else◌}
-use Rattle.ac_util.specs.declared.search.Anchored.{Anchored}
 use Rattle.ac_automaton.specs.Util.{alphabet_len, No, Node, Yes}
 use Rattle.ac_automaton.specs.Prelude.{ForNode}
 use Rattle.ac_automaton.specs.declared.nfa.noncontiguous.state.TheConstants.{ANCHORED_START, START}
@@ -15,10 +14,6 @@ pub record Packer : Type 0 where
   pub plan : PackPlan
   pub numbers : List ℕ
 
--- the searches in which a state of the trie is reached, as far as its words depend on them
-abbrev pub anchored_of : ℕ → Anchored
-anchored_of s = if nat_eq s ANCHORED_START then Yes else No
-
 module _ (f : Packer) (nodes : List Node) where
   -- the states have addresses
   pub record AreReady : Type 0 where
@@ -28,7 +23,8 @@ module _ (f : Packer) (nodes : List Node) where
   -- what the state of a number spells
   abbrev pub packed_state : ℕ → Node → PackedState
   packed_state s u =
-      packed_at (packed_of f.plan nodes f.numbers []) (places_of f.plan nodes f.numbers) (anchored_of s) u
+      packed_at (packed_of f.plan nodes f.numbers []) (places_of f.plan nodes f.numbers) (if nat_eq s ANCHORED_START
+      then Yes else No) u
 
   -- its words
   abbrev pub state_words : ℕ → Node → List ℕ

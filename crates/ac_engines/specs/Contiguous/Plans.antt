@@ -116,10 +116,6 @@ HasFormat q s format = ForNode (MayPack q) s (λ nodes u. format ≡ format_for 
 abbrev pub IsFrontEnd : PackPlan → ℕ → Type 0
 IsFrontEnd q place = (nodes : List Node) → MayPack q nodes → place ≡ front_end q nodes
 
--- these are the places of all states
-abbrev pub ArePlaces : PackPlan → List ℕ → Type 0
-ArePlaces q numbers = (nodes : List Node) → MayPack q nodes → HasPlaces q nodes numbers
-
 -- the error is that memory was refused, unless the number is more than a state may have as its number
 abbrev pub IsMemoryUnless : ℕ → BuildError → Type 0
 IsMemoryUnless number e = (e ≡ Memory) ⊎ (GREATEST < number)

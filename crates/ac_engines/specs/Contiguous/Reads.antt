@@ -1,12 +1,12 @@
 -- What is read in the words of a state.
-use Rattle.std.specs.Prelude.{ℕ, ◌+◌, ◌/◌, ◌%◌, ◌<◌, ◌≡◌, ◌≢◌, ◌==◌, ◌++◌, List, [], ◌∷◌, length, map, slice_index, slice_index_or, All, Option, Some, None, if◌then◌else◌}
+use Rattle.std.specs.Prelude.{ℕ, ◌+◌, ◌/◌, ◌%◌, ◌<◌, ◌≡◌, ◌≢◌, ◌==◌, ◌++◌, List, [], ◌∷◌, length, map, slice_index_or, All, Option, Some, None, if◌then◌else◌}
 use Rattle.std.specs.List.{range_with_len}
 use Rattle.std.specs.Borrow.{Bor}
 use Rattle.std.specs.Int.{to_le_bytes, w32}
 use Rattle.ac_engines.specs.declared.nfa.contiguous.format.Format.{Format}
 use Rattle.ac_engines.specs.declared.nfa.contiguous.format.Format.TheVariants.{Dense, One, Sparse}
 use Rattle.ac_engines.specs.declared.nfa.contiguous.state.Edge.{Edge}
-use Rattle.ac_engines.specs.Contiguous.Words.{BeginsWith, match_list_words, no_target, PackedState, target_by, word_of}
+use Rattle.ac_engines.specs.Contiguous.Words.{BeginsWith, match_list_words, no_target, PackedState, target_by}
 
 -- some state is spelled where the words begin, and this holds of it
 abbrev pub SomeState : List ℕ → (Format → ℕ → PackedState → Type 0) → Type 0
@@ -23,11 +23,6 @@ SomeStateOf words classes P = (format : Format) × (s : PackedState) × BeginsWi
 
 abbrev pub StateOf : List ℕ → ℕ → (Format → PackedState → Type 0) → Type 0
 StateOf words classes P = (format : Format) (s : PackedState) → BeginsWith words format classes s → P format s
-
--- they begin with those of a sparse state with so many transitions
-abbrev pub BeginSparse : List ℕ → ℕ → Type 0
-BeginSparse words transitions =
-    (classes : ℕ) × (s : PackedState) × BeginsWith words Sparse classes s × (transitions ≡ length s.edges)
 
 -- the target that a word names, if it isn't the number that no state has
 abbrev pub named : ℕ → Option ℕ
@@ -57,20 +52,11 @@ first_of a b c d class =
     else if d == class then 3
     else 4
 
--- the place of a class among the four of a word
-abbrev pub IsPlaceIn : ℕ → ℕ → ℕ → Type 0
-IsPlaceIn word class place =
-    (a b c d : ℕ) → a < 256 → b < 256 → c < 256 → d < 256 → word ≡ word_of a b c d → place ≡ first_of a b c d class
-
 -- the words are those of a state's matches, and what follows the state
 abbrev pub AreMatchWords : List ℕ → ℕ → List ℕ → Type 0
 AreMatchWords words classes matches =
     (format : Format) (s : PackedState) (begins : BeginsWith words format classes s) → s.matches ≢ []
     → matches ≡ match_list_words s.matches ++ begins.rest
-
--- a state with a match at the place has this one there
-abbrev pub MatchesAt : ℕ → ℕ → Format → PackedState → Type 0
-MatchesAt index pattern format s = index < length s.matches → pattern ≡ slice_index s.matches index
 
 -- the transitions that a state's words tell, in ascending order of their classes; a dense state says where each class
 -- leads

@@ -1,8 +1,8 @@
 -- Filling the rows of a DFA from a noncontiguous NFA.
-use Rattle.std.specs.Prelude.{◌≡◌, ◌≢◌, ◌⊎◌, ℕ, ◌+◌, ◌*◌, ◌<◌, ◌≤◌, ◌&&◌, List, [], ◌∷◌, ◌++◌, Contains, bytes_eq, length, slice_get, slice_index_or, if◌then◌else◌, Some, None}
+use Rattle.std.specs.Prelude.{◌≡◌, ◌≢◌, ◌⊎◌, ℕ, ◌+◌, ◌*◌, ◌<◌, ◌≤◌, List, [], ◌∷◌, ◌++◌, Contains, bytes_eq, length, slice_get, slice_index_or, if◌then◌else◌, Some, None}
 use Rattle.ac_util.specs.declared.search.Anchored.{Anchored}
-use Rattle.ac_automaton.specs.Util.{alphabet_len, begins_with_pattern, Built, class_at, GREATEST, is_leftmost, No, Node, plain_byte, SetsApart, start_refusal, StartKind, Yes}
-use Rattle.ac_automaton.specs.Prelude.{AreNodes, plain_of, step_of, transition_bytes_of, Trie}
+use Rattle.ac_automaton.specs.Util.{alphabet_len, Built, class_at, GREATEST, No, Node, plain_byte, SetsApart, start_refusal, StartKind, Yes}
+use Rattle.ac_automaton.specs.Prelude.{AreNodes, step_of, transition_bytes_of, Trie}
 use Rattle.ac_engines.specs.Dfa.{anchored_shift, entry, number_of}
 
 -- what a DFA is filled from: what it is built from, the class of each byte, how many entries a row has, which node
@@ -152,22 +152,6 @@ abbrev pub FillsState : Filling → ℕ → List ℕ → List ℕ → Type 0
 FillsState f s old new =
     (nodes : List Node) (w : List ℕ) → HasRow f nodes (length old) s w → FilledUpTo f nodes (length old) s old
     → FilledUpTo f nodes (length old) (s + 1) new
-
--- the number is that of a row of a state
-abbrev pub IsRowNumber : Filling → ℕ → Anchored → ℕ → Type 0
-IsRowNumber f s anchored number =
-    (nodes : List Node) (size : ℕ) (w : List ℕ) → HasRow f nodes size s w
-    → number ≡ row_at (row_input f nodes) anchored (Some w)
-
--- where a byte leads from the unanchored start that doesn't lead on: back to it, unless under a leftmost kind an empty
--- pattern has begun the match
-abbrev pub start_target : Built → ℕ → ℕ
-start_target built start = if is_leftmost built.kind && begins_with_pattern (plain_of built) [] then 0 else start
-
--- the rows of a state can be filled: those of all before it are
-abbrev pub MayFillState : Filling → ℕ → List ℕ → Type 0
-MayFillState f s old =
-    (nodes : List Node) × (w : List ℕ) × HasRow f nodes (length old) s w × FilledUpTo f nodes (length old) s old
 
 -- all rows of a table of this size are filled, where they can be
 abbrev pub FillsAll : Filling → ℕ → List ℕ → Type 0

@@ -95,8 +95,3 @@ abbrev pub PlacesState : {E Z : Type 0} → Trie → StartKind → ℕ → Rows 
 PlacesState trie start_kind s old result new =
     ForNode (AreNodes trie) s
     (λ nodes u. IfOk result (λ row. HasPlaced start_kind trie.built u row old.lists old.back new.lists new.back))
-
--- where the lists of its rows succeed in being added, they were
-abbrev pub AddsLists : {E : Type 0} → Trie → StartKind → ℕ → List (List ℕ) → Result (Unit {0}) E → List (List ℕ) → Type 0
-AddsLists trie start_kind s old result new =
-    ForNode (AreNodes trie) s (λ nodes u. IfOk result (λ done. new ≡ old ++ row_lists start_kind trie.built u))

@@ -1,10 +1,11 @@
 //! Filling the rows of a DFA.
-ghost use Rattle.std.specs.Prelude.{◌≡◌, ◌≢◌, ◌⊎◌, ◌&&◌, ℕ, ◌+◌, ◌<◌, ◌≤◌, List, [], length, slice_index_or};
+ghost use Rattle.std.specs.Prelude.{◌≡◌, ◌≢◌, ◌⊎◌, ◌&&◌, ℕ, ◌+◌, ◌<◌, ◌≤◌, List, [], length, slice_index_or, if◌then◌else◌, Some};
 ghost use Rattle.std.specs.List.{CopiedTo, SameBelow, SameFrom};
-ghost use Rattle.ac_automaton.specs.Util.{GREATEST, is_leftmost, Node};
+ghost use Rattle.ac_automaton.specs.Util.{GREATEST, is_leftmost, Node, begins_with_pattern};
 ghost use Rattle.ac_util.specs.declared.search.Anchored;
-ghost use Rattle.ac_engines.specs.Dfa.Filling.{FillsAll, FillsRow, FillsState, HasRow, IsRowNumber, IsRowToFill, MayFill, MayFillState, SameBeside, SetsOwn, start_target};
+ghost use Rattle.ac_engines.specs.Dfa.Filling.{FillsAll, FillsRow, FillsState, HasRow, IsRowToFill, MayFill, SameBeside, SetsOwn, row_at, row_input, FilledUpTo};
 ghost use Rattle.ac_engines.specs.Dfa.{anchored_shift};
+ghost use Rattle.ac_automaton.specs.Prelude.{plain_of};
 
 use ac_automaton::automaton::Automaton;
 use ac_automaton::nfa::noncontiguous::{DEAD, FIRST_INNER, NFA, START};
@@ -55,7 +56,8 @@ impl<'a, A: Allocator> Filler<'a, A> {
     /// Returns the number of a state in the table.
     fn number(&self, sid: StateID, anchored: Anchored) -> StateID
         requires { (nodes : List Node) × (size : ℕ) × (w : List ℕ) × HasRow self.now nodes size sid w }
-        ensures { IsRowNumber self.now sid anchored result }
+        ensures { (nodes : List Node) (size : ℕ) (w : List ℕ) → HasRow self.now nodes size sid w → result
+            ≡ row_at (row_input self.now nodes) anchored (Some w) }
     {
         StateID::must(first_row(self.numbers, sid) + self.anchored_shift(anchored))
     }
@@ -91,7 +93,9 @@ impl<'a, A: Allocator> Filler<'a, A> {
 
     /// Returns where a byte leads from the start that doesn't lead on.
     fn default_target(&self, start: StateID) -> StateID
-        ensures { result ≡ start_target self.now.trie.built start }
+        ensures { result
+            ≡ (if is_leftmost self.now.trie.built.kind && begins_with_pattern (plain_of self.now.trie.built) [] then 0
+            else start) }
     {
         if self.nfa.match_kind().is_leftmost() && self.nfa.min_pattern_len() == 0 {
             StateID::must(DEAD)
@@ -126,7 +130,8 @@ impl<'a, A: Allocator> Filler<'a, A> {
 
     /// Fills the rows of a state.
     fn fill_state(&self, table: &mut [StateID], sid: StateID)
-        requires { MayFillState self.now sid table.old }
+        requires { (nodes : List Node) × (w : List ℕ) × HasRow self.now nodes (length table.old) sid w
+            × FilledUpTo self.now nodes (length table.old) sid table.old }
         ensures { FillsState self.now sid table.old table.new }
     {
         match self.start_kind {

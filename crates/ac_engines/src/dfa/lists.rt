@@ -1,8 +1,9 @@
 //! The match lists of the rows of a DFA, one after another.
-ghost use Rattle.std.specs.Prelude.{◌≡◌, [], IfOk};
+ghost use Rattle.std.specs.Prelude.{◌≡◌, [], IfOk, ◌++◌};
 ghost use Rattle.ac_automaton.specs.declared.nfa.noncontiguous.state.TheConstants.{START};
-ghost use Rattle.ac_engines.specs.Dfa.Layouts.{AddsLists, first_lists};
+ghost use Rattle.ac_engines.specs.Dfa.Layouts.{first_lists, row_lists};
 ghost use Rattle.ac_engines.specs.Listed.{HasNode};
+ghost use Rattle.ac_automaton.specs.Prelude.{ForNode, AreNodes};
 
 use crate::matches::list_matches;
 use ac_automaton::nfa::noncontiguous::{NFA, START};
@@ -49,7 +50,8 @@ pub(super) fn add_rows<A: Allocator>(
     start_kind: StartKind,
 ) -> Result<(), AllocError>
     requires state { HasNode nfa.now sid }
-    ensures { AddsLists nfa.now start_kind sid lists.old result lists.new }
+    ensures { ForNode (AreNodes nfa.now) sid
+        (λ nodes u. IfOk result (λ done. lists.new ≡ lists.old ++ row_lists start_kind nfa.now.built u)) }
 {
     if start_kind != StartKind::Anchored {
         list_matches(nfa, sid, Anchored::No, matches)?;

@@ -1,7 +1,8 @@
 //! The engines of a searcher and their iterators.
 ghost use Rattle.std.specs.Prelude.{◌≡◌, IfOk};
-ghost use Rattle.ac_automaton.specs.Prelude.{common_of, GivesRead, GoesOn, kept_len, ListsNext};
-ghost use Rattle.ac_search.specs.Engines.{EngineStreams, built_of, wants_prefilter_of, listing_in, name_of, states_of, streaming_in, walking_in};
+ghost use Rattle.ac_automaton.specs.Prelude.{common_of, GivesRead, GoesOn, kept_len, ListsNext, Streams};
+ghost use Rattle.ac_search.specs.Engines.{built_of, wants_prefilter_of, listing_in, name_of, states_of, streaming_in, walking_in};
+ghost use Rattle.ac_automaton.specs.Streams.{on};
 
 use super::choice::AhoCorasickKind;
 use ac_automaton::automaton::{self, Automaton, Common};
@@ -131,7 +132,8 @@ impl<'a, A: Allocator, Z: Allocator> EngineStreamFinder<'a, A, Z> {
     /// # Errors
     /// As `StreamFinder::next` of `ac_automaton::automaton`.
     pub(super) fn next<R: Source>(&mut self, reader: &mut R) -> Option<Result<Match, StreamError>>
-        ensures { EngineStreams R.empty_means_end R.told self.old result self.new reader.old reader.new }
+        ensures { Streams R.empty_means_end (on R.told (streaming_in self.old) reader.old) result
+            (on R.told (streaming_in self.new) reader.new) }
     {
         by_engine!(EngineStreamFinder, self, finder => finder.next(reader))
     }

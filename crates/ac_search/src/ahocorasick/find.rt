@@ -2,11 +2,11 @@
 ghost use Rattle.std.specs.Prelude.{◌≡◌, ◌↔◌, IsTrue, None};
 ghost use Rattle.std.specs.Iterator.{item_count};
 ghost use Rattle.std.specs.Iterator.Runs.{YieldsInOrder};
-ghost use Rattle.ac_automaton.specs.Util.{input_of, find_refusal, find_result};
+ghost use Rattle.ac_automaton.specs.Util.{input_of, find_refusal, find_result, AnswersUnless};
 ghost use Rattle.ac_automaton.specs.Answers.{AnswersFind};
 ghost use Rattle.ac_automaton.specs.Iterators.{GoesOn};
 ghost use Rattle.ac_search.specs.Alike.{SomeOccurs};
-ghost use Rattle.ac_search.specs.Searchers.{BeginsWalk, initial_walk_by};
+ghost use Rattle.ac_search.specs.Searchers.{initial_walk_by};
 
 use super::engine::{Engine, EngineFindIter, by_engine};
 use super::{AhoCorasick, check_start};
@@ -138,7 +138,8 @@ impl<A: Allocator> AhoCorasick<A> {
         &'a self,
         input: Input<'h>,
     ) -> Result<FindIter<'a, 'h, A>, MatchError>
-        ensures begun { BeginsWalk self.now (input_of input.entry) result }
+        ensures begun { AnswersUnless (find_refusal self.now.built (input_of input.entry))
+            (initial_walk_by self.now (input_of input.entry)) result }
         ensures runs { YieldsInOrder GoesOn (λ w. w.rest) }
     {
         check_start(self.start_kind, input.get_anchored())?;

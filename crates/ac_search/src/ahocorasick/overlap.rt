@@ -2,9 +2,9 @@
 ghost use Rattle.std.specs.Prelude.{◌≡◌, None};
 ghost use Rattle.std.specs.Iterator.{item_count};
 ghost use Rattle.std.specs.Iterator.Runs.{YieldsInOrder};
-ghost use Rattle.ac_automaton.specs.Util.{input_of, overlapping_iter_refusal, overlapping_refusal};
+ghost use Rattle.ac_automaton.specs.Util.{input_of, overlapping_iter_refusal, overlapping_refusal, AnswersUnless};
 ghost use Rattle.ac_automaton.specs.Overlaps.{ListsNext};
-ghost use Rattle.ac_search.specs.Searchers.{FindsItem, HasPlace, IsNextPlace, next_item, BeginsListing, initial_listing_by};
+ghost use Rattle.ac_search.specs.Searchers.{FindsItem, HasPlace, IsNextPlace, next_item, initial_listing_by};
 
 use super::engine::{Engine, EngineFindOverlappingIter, by_engine};
 use super::{AhoCorasick, check_start};
@@ -129,7 +129,8 @@ impl<A: Allocator> AhoCorasick<A> {
         &'a self,
         input: Input<'h>,
     ) -> Result<FindOverlappingIter<'a, 'h, A>, MatchError>
-        ensures begun { BeginsListing self.now (input_of input.entry) result }
+        ensures begun { AnswersUnless (overlapping_iter_refusal self.now.built (input_of input.entry))
+            (initial_listing_by self.now (input_of input.entry)) result }
         ensures runs { YieldsInOrder ListsNext (λ l. l.rest) }
     {
         check_start(self.start_kind, input.get_anchored())?;

@@ -1,7 +1,7 @@
 //! Replacement of the matches of a haystack in memory.
-ghost use Rattle.std.specs.Prelude.{◌≡◌, Err, IfErr, IfOk, MatchResult, None, Ok, length};
-ghost use Rattle.ac_automaton.specs.Util.{bytes_of, replace_refusal};
-ghost use Rattle.ac_automaton.specs.Answers.{AnswersBytes, AnswersText, AreReplacedBytes, ExchangesBytes, ExchangesText, IsReplacedText, StepsInBytes, StepsInText};
+ghost use Rattle.std.specs.Prelude.{◌≡◌, Err, IfErr, IfOk, MatchResult, None, Ok, length, string_bytes};
+ghost use Rattle.ac_automaton.specs.Util.{bytes_of, replace_refusal, exchanged, exchanged_in_text};
+ghost use Rattle.ac_automaton.specs.Answers.{AnswersBytes, AnswersText, AreReplacedBytes, ExchangesBytes, ExchangesText, IsReplacedText, StepsBy};
 
 use super::AhoCorasick;
 use ac_automaton::automaton::{
@@ -102,7 +102,8 @@ impl<A: Allocator> AhoCorasick<A> {
         F: FnMut(&Match, &str, &mut String) -> bool,
         requires supported { replace_refusal self.now.built ≡ None }
         requires callable { F.IsAlwaysCallable exchange }
-        ensures { StepsInText F.FnMut self.now.built haystack.now exchange destination.old destination.new result }
+        ensures { StepsBy F.FnMut string_bytes exchanged_in_text self.now.built haystack.now exchange destination.old
+            destination.new result }
     {
         unrefused(self.try_replace_all_with(haystack, destination, exchange))
     }
@@ -133,7 +134,8 @@ impl<A: Allocator> AhoCorasick<A> {
         F: FnMut(&Match, &[u8], &mut Vec<u8>) -> bool,
         requires supported { replace_refusal self.now.built ≡ None }
         requires callable { F.IsAlwaysCallable exchange }
-        ensures { StepsInBytes F.FnMut self.now.built haystack.now exchange destination.old destination.new result }
+        ensures { StepsBy F.FnMut
+            (λ d. d.items) exchanged self.now.built haystack.now exchange destination.old destination.new result }
     {
         unrefused(self.try_replace_all_with_bytes(haystack, destination, exchange))
     }

@@ -1,8 +1,8 @@
 //! A reader and a writer of bytes in memory.
-ghost use Rattle.std.specs.Prelude.{◌≡◌, true, [], Some, IfErr, IfOk, length};
+ghost use Rattle.std.specs.Prelude.{◌≡◌, true, [], Some, IfErr, IfOk, length, IfSome, Ok, min};
 ghost use Rattle.std.specs.IoError.{error_kind};
 ghost use Rattle.std.specs.declared.io.ErrorKind.TheVariants.{OutOfMemory};
-ghost use Rattle.ac_util.specs.Device.{GivesAll, Reads, Writes};
+ghost use Rattle.ac_util.specs.Device.{Reads, Writes};
 
 use super::misses::Misses;
 use super::{Sink, Source};
@@ -47,7 +47,7 @@ impl<'a> Source for Bytes<'a> {
     /// Never fails, and gives all bytes that are left, or as many as fit.
     fn read_some(&mut self, into: &mut [u8]) -> io::Result<usize>
         ensures reads { Reads true self.old self.new result into.new }
-        ensures full { GivesAll self.old.left result into.old }
+        ensures full { IfSome self.old.left (λ bytes. result ≡ Ok (min (length bytes) (length into.old))) }
     {
         let n = self.left.read(into)?;
         self.misses.record(n, into.len());

@@ -1,20 +1,21 @@
 //! For users: what follows from the definitions of what a search answers.
-ghost use Rattle.std.specs.Prelude.{◌≡◌, ℕ, ◌++◌, ◌<◌, ◌≤◌, ◌↔◌, ◌⊎◌, Bool, true, false, List, [], Contains, AllPairs, length, slice_get, Option, None, Some};
-ghost use Rattle.std.specs.Str.{IsCharBoundary};
+ghost use Rattle.std.specs.Prelude.{◌≡◌, ℕ, ◌++◌, ◌<◌, ◌≤◌, ◌↔◌, ◌⊎◌, Bool, true, false, List, [], Contains, AllPairs, length, slice_get, Option, None, Some, ◌+◌, ◌-◌, filter, nat_le, take, slice_index};
+ghost use Rattle.std.specs.Str.{IsCharBoundary, IsUtf8};
 ghost use Rattle.ac_util.specs.declared.search.MatchKind.{MatchKind};
 ghost use Rattle.ac_util.specs.declared.search.MatchKind.TheVariants.{Standard};
-ghost use Rattle.ac_util.specs.Built.{Built, find_result, has_empty, LiesIn, search_in, walk_result};
+ghost use Rattle.ac_util.specs.Built.{Built, find_result, has_empty, LiesIn, search_in, walk_result, AreTexts, IsBetweenCharacters};
 ghost use Rattle.ac_util.specs.Device.{Writing, WritesAll, WritesBeginning, WritesUntilFailure};
 ghost use Rattle.ac_util.specs.declared.device.WriteError.{WriteError};
 ghost use Rattle.ac_util.specs.Input.{InputView};
-ghost use Rattle.ac_util.specs.Laws.{AllLieIn, AnswerLiesIn, AreAlike, CutsNoCharacter, Decides, EarliestIsStandard, HoldsBack, IsInListing, IsPastListing, MatchesStay, SettledBegins, SettledStays, StayingIsDecided, StepsKeep, StepsLeaveBeginning, StepsLeaveWhole, WalkBegins, WalkEnds, WalkGoesOn, matched_pattern, most_matches};
-ghost use Rattle.ac_util.specs.Listing.{all, IsBefore, item_at};
-ghost use Rattle.ac_util.specs.Occurrence.{Occurrence, AreOneLetter, IsSame, same_byte, same_string, Occurs, Search, occurs};
+ghost use Rattle.ac_util.specs.Laws.{AllLieIn, Decides, EarliestIsStandard, HoldsBack, SettledBegins, SettledStays, StayingIsDecided, StepsKeep, StepsLeaveBeginning, StepsLeaveWhole, WalkGoesOn};
+ghost use Rattle.ac_util.specs.Listing.{all, IsBefore, item_at, place_after};
+ghost use Rattle.ac_util.specs.Occurrence.{Occurrence, IsSame, same_byte, same_string, Occurs, Search, occurs, pattern_of, IsCapitalOf};
 ghost use Rattle.ac_util.specs.Pick.{IsPick, order_of, pick};
 ghost use Rattle.ac_util.specs.Replacement.{is_char_boundary, Calls, ClosureExchanges};
 ghost use Rattle.ac_util.specs.declared.error.ReplaceError.{ReplaceError};
 ghost use Rattle.ac_util.specs.Node.{cut, outward};
-ghost use Rattle.ac_util.specs.Walk.{IsAfter, walk};
+ghost use Rattle.ac_util.specs.Walk.{IsAfter, walk, next_match, walk_after};
+ghost use Rattle.ac_util.specs.Stream.{stream_result};
 
 use crate::error::ReplaceError;
 use crate::search::Match;
@@ -24,9 +25,10 @@ use crate::search::Match;
 /// if they are equal.
 pub fn sameness_is_by_letter()
     ensures bytes { (a b : ℕ) → (same_byte false a b ≡ true) ↔ (a ≡ b) }
-    ensures letters { (a b : ℕ) → (same_byte true a b ≡ true) ↔ ((a ≡ b) ⊎ AreOneLetter a b) }
+    ensures letters { (a b : ℕ) → (same_byte true a b ≡ true) ↔ ((a ≡ b) ⊎ (IsCapitalOf a b ⊎ IsCapitalOf b a)) }
     ensures strings { (ignores_case : Bool) (s t : List ℕ)
-        → IsSame ignores_case s t ↔ AreAlike ignores_case s t }
+        → IsSame ignores_case s t ↔ ((length s ≡ length t)
+        × ((k : ℕ) → k < length s → same_byte ignores_case (slice_index s k) (slice_index t k) ≡ true)) }
     ensures counted { (s t : List ℕ) → IsSame false s t ↔ (s ≡ t) }
 {}
 
@@ -47,8 +49,10 @@ pub fn listing_is_exact()
 /// and all items were given. Call this in a loop over the ranks of a listing: the number of items that are left is its
 /// measure.
 pub fn listing_goes_on()
-    ensures ends { (q : Search) (place : ℕ) → item_at q place ≡ None → IsPastListing q place }
-    ensures goes_on { (q : Search) (place : ℕ) (m : Occurrence) → item_at q place ≡ Some m → IsInListing q place }
+    ensures ends { (q : Search) (place : ℕ) → item_at q place ≡ None → (length (all q) ≤ place)
+        × (place_after q place ≡ place) }
+    ensures goes_on { (q : Search) (place : ℕ) (m : Occurrence) → item_at q place ≡ Some m → (place < length (all q))
+        × (place_after q place ≡ place + 1) }
 {}
 
 /// Bytes outside the span never count: what occurs in it is what occurs in its bytes alone. In a span without
@@ -56,7 +60,7 @@ pub fn listing_goes_on()
 pub fn only_the_span_counts()
     ensures cut { (q : Search) (m : Occurrence) → q.low ≤ q.high
         → Occurs (cut q) m ↔ Occurs q (outward q.low m) }
-    ensures empty { (q : Search) (m : Occurrence) → q.low ≡ q.high → Occurs q m → matched_pattern q m ≡ [] }
+    ensures empty { (q : Search) (m : Occurrence) → q.low ≡ q.high → Occurs q m → pattern_of q.patterns m.pattern ≡ [] }
     ensures past_end { (q : Search) (m : Occurrence) → q.high < q.low → ¬ Occurs q m }
 {}
 
@@ -65,7 +69,8 @@ pub fn only_the_span_counts()
 /// list is indexed by its pattern.
 #[tactic(auto, using(crate::proofs::LawSets::matches_lie_inside))]
 pub fn matches_lie_inside()
-    ensures find { AnswerLiesIn find_result }
+    ensures find { (built : Built) (input : InputView) (m : Occurrence) → input.end ≤ length input.haystack
+        → find_result built input ≡ Some m → LiesIn built input m }
     ensures walk { AllLieIn walk_result }
     ensures listing { AllLieIn (λ built input. all (search_in built input)) }
 {}
@@ -73,7 +78,8 @@ pub fn matches_lie_inside()
 /// Where the haystack and all patterns are texts, and no pattern is empty, a match starts and ends between
 /// characters, whether case counts or not. Call this where a `str` is sliced at a match.
 pub fn matches_cut_no_character()
-    ensures { (built : Built) (input : InputView) (m : Occurrence) → CutsNoCharacter built input m }
+    ensures { (built : Built) (input : InputView) (m : Occurrence) → AreTexts built.patterns → IsUtf8 input.haystack
+        → LiesIn built input m → IsBetweenCharacters input.haystack m }
 {}
 
 /// The pick is the one answer that its relation allows; under Standard it is the first of the listing.
@@ -97,7 +103,8 @@ pub fn earliest_is_standard()
 
 /// The walk ends where there is no next match; else it is that match, and then the walk from its end on.
 pub fn walk_goes_on()
-    ensures ends { (kind : MatchKind) (q : Search) (last : Option ℕ) → WalkEnds kind q last }
+    ensures ends { (kind : MatchKind) (q : Search) (last : Option ℕ) → next_match kind q last ≡ None
+        → walk_after kind q last ≡ [] }
     ensures goes_on { (kind : MatchKind) (q : Search) (last : Option ℕ) → WalkGoesOn kind q last }
 {}
 
@@ -109,19 +116,21 @@ pub fn walk_is_in_order()
 
 /// A walk has at most one match more than the span has bytes. Call this where matches are counted.
 pub fn walk_is_short()
-    ensures { (built : Built) (input : InputView) → length (walk_result built input) ≤ most_matches input }
+    ensures { (built : Built) (input : InputView) → length (walk_result built input) ≤ (input.end + 1 - input.start) }
 {}
 
 /// Under Standard the walk over a beginning of the span is those matches of the whole walk that end within it.
 pub fn walk_has_beginnings()
     ensures { (q : Search) (end : ℕ) → end ≤ q.high
-        → WalkBegins q end }
+        → walk Standard (record q { high = end }) ≡ filter (λ m. nat_le m.end end) (walk Standard q) }
 {}
 
 /// Under Standard the matches of a stream stay as more of it comes, and others follow: what was given before a read is right
 /// whatever the read brings.
 pub fn stream_goes_on()
-    ensures { (built : Built) (bytes more : List ℕ) → built.kind ≡ Standard → MatchesStay built bytes more }
+    ensures { (built : Built) (bytes more : List ℕ) → built.kind ≡ Standard
+        → take (length (stream_result built bytes)) (stream_result built (bytes ++ more))
+        ≡ stream_result built bytes }
 {}
 
 /// Under a leftmost kind without an empty pattern the matches by which a stream is settled stay as more of it comes,

@@ -1,5 +1,5 @@
 //! Of the plain types: how values compare, are hashed and are cloned, and what classes of bytes are.
-ghost use Rattle.std.specs.Prelude.{◌≡◌, ℕ, ◌^◌, ◌≤◌, ◌++◌, ◌↔◌, Bool, List, true};
+ghost use Rattle.std.specs.Prelude.{◌≡◌, ℕ, ◌^◌, ◌≤◌, ◌++◌, ◌↔◌, Bool, List, true, ◌<◌};
 ghost use Rattle.std.specs.Hash as fed;
 ghost use Rattle.std.specs.Ordering.{nat_cmp};
 ghost use Rattle.ac_util.specs.declared.error.BuildError.{BuildError};
@@ -15,9 +15,9 @@ ghost use Rattle.ac_util.specs.declared.search.Span.{Span};
 ghost use Rattle.ac_util.specs.declared.search.input.Input.{Input as AnInput};
 ghost use Rattle.ac_util.specs.declared.search.StartKind.{StartKind};
 ghost use Rattle.ac_util.specs.declared.search.StartKind.TheVariants.{Unanchored};
-ghost use Rattle.ac_util.specs.Classes.{AreClasses, alphabet_len, class_of, classes_of, singletons, stride, stride2};
+ghost use Rattle.ac_util.specs.Classes.{AreClasses, alphabet_len, class_of, classes_of, singletons, stride, stride2, class_at};
 ghost use Rattle.ac_util.specs.Input.{input_of};
-ghost use Rattle.ac_util.specs.Laws.{AlwaysSetsApart, AreAlwaysClasses, AreBelow, HashesEqually, IsAlwaysLawful, IsLawfulAsRead, OnlyPatternsLead, match_input};
+ghost use Rattle.ac_util.specs.Laws.{AlwaysSetsApart, HashesEqually, IsAlwaysLawful, IsLawfulAsRead, OnlyPatternsLead};
 ghost use Rattle.ac_util.specs.Occurrence.{Occurrence};
 
 use crate::error::{BuildError, MatchError, ReplaceError};
@@ -103,7 +103,8 @@ pub fn values_hash_by_their_fields()
     ensures plain { (n : ℕ) → ⟦<SmallIndex as Hash>⟧.hash_input n ≡ fed.u32 n }
     ensures spans { (s : Span)
         → ⟦<Span as Hash>⟧.hash_input s ≡ fed.usize s.start ++ fed.usize s.end }
-    ensures matches { (m : Occurrence) → ⟦<Match as Hash>⟧.hash_input m ≡ match_input m }
+    ensures matches { (m : Occurrence) → ⟦<Match as Hash>⟧.hash_input m
+        ≡ (fed.u32 m.pattern ++ fed.usize m.start ++ fed.usize m.end) }
 {}
 
 /// Values that compare as equal hand a hasher the same.
@@ -148,9 +149,11 @@ pub fn classes_set_apart()
 /// A stride has room for each class, and no lesser power of two has.
 #[tactic(auto, using(crate::proofs::LawSets::strides_have_room))]
 pub fn strides_have_room()
-    ensures of_patterns { AreAlwaysClasses classes_of }
+    ensures of_patterns { (ignores_case : Bool) (patterns : List (List ℕ))
+        → AreClasses (classes_of ignores_case patterns) }
     ensures singletons { AreClasses singletons }
-    ensures below { (classes : List ℕ) → AreClasses classes → AreBelow classes (alphabet_len classes) }
+    ensures below { (classes : List ℕ) → AreClasses classes → (b : ℕ) → b < 256
+        → class_at classes b < (alphabet_len classes) }
     ensures enough { (classes : List ℕ) → AreClasses classes → alphabet_len classes ≤ stride classes }
     ensures least { (classes : List ℕ) (k : ℕ) → alphabet_len classes ≤ 2 ^ k → stride2 classes ≤ k }
 {}

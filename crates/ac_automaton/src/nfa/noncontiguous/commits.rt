@@ -8,7 +8,7 @@ ghost use Rattle.ac_util.specs.Node.{Node};
 ghost use Rattle.ac_automaton.specs.Util.{Both, GREATEST};
 ghost use Rattle.ac_automaton.specs.Automata.{built_as};
 ghost use Rattle.ac_automaton.specs.Commits.{HasCommits, reads_on};
-ghost use Rattle.ac_automaton.specs.Committing.{HasAdded, HasLedOn, HasMadeNone, Holds, IsChild, IsMade, MakesNext, HasString, IsViewOf, LeadsToChild, lists_by, lists_of, made_of, trie_by};
+ghost use Rattle.ac_automaton.specs.Committing.{HasAdded, HasLedOn, HasMadeNone, HoldsCommit, IsChild, IsMade, MakesNext, HasString, IsViewOf, LeadsToChild, lists_by, lists_of, made_of, trie_by};
 ghost use Rattle.ac_automaton.specs.Tries.{automaton_of, IsTrie, TrieView};
 
 use super::lists::TrieLists;
@@ -75,7 +75,7 @@ impl<'a, A: Allocator> Making<'a, A> {
     /// Returns the commit of a state, if it was made. That of a state whose string ends with a match gives nothing after it.
     fn held(&self, sid: StateID) -> Option<Commit>
         requires at { HasString self.now sid }
-        ensures { Holds self.now sid result }
+        ensures { HoldsCommit self.now sid result }
     {
         let rest = MatchRest {
             state: sid,

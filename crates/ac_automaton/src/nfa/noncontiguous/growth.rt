@@ -6,10 +6,12 @@
 //! sorted, since those by capitals come before those by small letters. A child's failure target is a step from
 //! that of its parent: along a pattern each byte makes the target at most one byte longer, and each failure link
 //! makes it shorter, so a build follows few of them. It counts none.
-ghost use Rattle.std.specs.Prelude.{◌≡◌, ◌≢◌, ℕ, ◌+◌, ◌<◌, ◌≤◌, Bool, List, IfOk, None, Some, length};
+ghost use Rattle.std.specs.Prelude.{◌≡◌, ◌≢◌, ℕ, ◌+◌, ◌<◌, ◌≤◌, Bool, List, IfOk, None, Some, length, []};
 ghost use Rattle.ac_automaton.specs.Util.{GREATEST, plain};
-ghost use Rattle.ac_automaton.specs.Growths.{BranchesAt, EndsPatterns, GrowsWhole, HasRoot, HasChildIn, HasSorted, IsChildFailure, IsLinkFrom, MayBranch, PushesState, WaitsAtStart, source_of};
+ghost use Rattle.ac_automaton.specs.Growths.{BranchesAt, EndsPatterns, HasRoot, HasChildIn, HasSorted, IsChildFailure, IsLinkFrom, MayBranch, PushesState, source_of, BuildsLists, Waits};
 ghost use Rattle.ac_automaton.specs.Tries.{AreStates, TrieView};
+ghost use Rattle.ac_automaton.specs.Sorted.{IsOrder};
+ghost use Rattle.ac_automaton.specs.declared.nfa.noncontiguous.state.TheConstants.{START};
 
 use super::lists::TrieLists;
 use super::sorted::SortedPatterns;
@@ -80,7 +82,8 @@ impl<'p, A: Allocator + Clone> Growth<'p, A> {
     /// refused.
     pub(super) fn grow(mut self) -> Result<TrieLists<A>, BuildError>
         requires begun { (ignores_case : Bool) × (texts : List (List ℕ)) × HasRoot ignores_case texts self }
-        ensures { GrowsWhole self.entry result }
+        ensures { (ignores_case : Bool) (texts : List (List ℕ)) → HasRoot ignores_case texts self.entry
+            → BuildsLists texts ignores_case self.entry.kind result }
     {
         let start = self.start();
         let start = self.branch(start)?;
@@ -170,7 +173,8 @@ impl<'p, A: Allocator + Clone> Growth<'p, A> {
 impl<'p, A: Allocator> Growth<'p, A> {
     /// Returns the start as it waits for its children.
     fn start(&self) -> QueuedState
-        ensures waits { WaitsAtStart self.now result }
+        ensures waits { (patterns : List (List ℕ)) → IsOrder self.now.kind patterns self.now.sorted.patterns
+            → Waits self.now.kind patterns self.now.sorted.patterns [] START result }
         ensures depth { result.depth ≡ 0 }
     {
         let sorted = &self.sorted;

@@ -1,8 +1,8 @@
 //! Readers of a trie's states. The DFA and the contiguous NFA are built by these alone.
-ghost use Rattle.std.specs.Prelude.{◌≡◌, ◌≢◌, ℕ, ◌+◌, ◌<◌, ◌≤◌, List};
+ghost use Rattle.std.specs.Prelude.{◌≡◌, ◌≢◌, ℕ, ◌+◌, ◌<◌, ◌≤◌, List, length};
 ghost use Rattle.ac_automaton.specs.Util.{depth, Node, state_count};
 ghost use Rattle.ac_automaton.specs.Automata.{plain_of};
-ghost use Rattle.ac_automaton.specs.Tries.{AreNodes, ForNode, HasOwn, IsFailureOf, IsOwnOf, own_len_of};
+ghost use Rattle.ac_automaton.specs.Tries.{AreNodes, ForNode, HasOwn, IsFailureOf, transition_bytes_of, IsNumbered, IsOwn};
 
 use super::{ANCHORED_START, FIRST_INNER, NFA};
 use ac_util::patterns::Patterns;
@@ -49,7 +49,8 @@ impl<A: Allocator> NFA<A> {
     #[inline]
     pub fn own_len(&self, sid: StateID) -> usize
         requires numbered { sid < state_count self.now.built.kind (plain_of self.now.built) }
-        ensures value { ForNode (AreNodes self.now) sid (λ nodes u. result ≡ own_len_of self.now.built u) }
+        ensures value { ForNode (AreNodes self.now) sid
+            (λ nodes u. result ≡ length (transition_bytes_of self.now.built u)) }
         ensures places { (index : ℕ) → index < result → HasOwn self.now sid index }
     {
         let state = &self.states()[sid.as_usize()];
@@ -64,7 +65,8 @@ impl<A: Allocator> NFA<A> {
     pub fn own(&self, sid: StateID, index: usize) -> (u8, StateID)
         requires numbered { sid < state_count self.now.built.kind (plain_of self.now.built) }
         requires within { HasOwn self.now sid index }
-        ensures { IsOwnOf self.now sid index result.0 result.1 }
+        ensures { (nodes : List Node) (w : List ℕ) → AreNodes self.now nodes → IsNumbered nodes sid w
+            → IsOwn self.now nodes w index result.0 result.1 }
     {
         let state = &self.states()[sid.as_usize()];
         let next = &self.transitions()[state.transitions as usize + index];

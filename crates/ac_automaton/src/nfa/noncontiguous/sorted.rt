@@ -1,10 +1,10 @@
 //! The patterns that take part, sorted by their bytes.
-ghost use Rattle.std.specs.Prelude.{◌≡◌, ◌+◌, ◌-◌, ◌<◌, ◌≤◌, true, false, nat_eq, All, IfOk, IsTrue, OnOk, length, map, slice_get, slice_index_or, take};
+ghost use Rattle.std.specs.Prelude.{◌≡◌, ◌+◌, ◌-◌, ◌<◌, ◌≤◌, true, false, nat_eq, All, IfOk, IsTrue, OnOk, length, map, slice_get, slice_index_or, take, Bool, List, ℕ, ◌≢◌};
 ghost use Rattle.std.specs.Cmp.Lexicographic.{slice_cmp};
-ghost use Rattle.std.specs.List.{starts_with};
+ghost use Rattle.std.specs.List.{starts_with, AllWithin, HoldsAt};
 ghost use Rattle.std.specs.Ordering.{nat_cmp};
 ghost use Rattle.ac_automaton.specs.Util.{GREATEST, LeftmostFirst, plain, Standard};
-ghost use Rattle.ac_automaton.specs.Sorted.{AreListed, AreNumbered, AreShort, AreSorted, DifferAt, DropsNoPrefix, EndsNoEarlier, HasHead, HasShadow, IsHead, KeepsParticipants, ListsParticipants, ShareByte, byte_at, compared, compared_by_bytes, key_at, keyed, numbers};
+ghost use Rattle.ac_automaton.specs.Sorted.{AreListed, AreNumbered, AreShort, AreSorted, HasShadow, IsHead, ListsParticipants, byte_at, compared, compared_by_bytes, key_at, keyed, numbers, is_prefix};
 
 use ac_util::patterns::{Patterns, plain_byte};
 use ac_util::primitives::PatternID;
@@ -77,7 +77,8 @@ impl<'p, A: Allocator> SortedPatterns<'p, A> {
     /// # Errors
     /// `AllocError` where a request for memory is refused.
     fn participating(mut self, alloc: A) -> Result<SortedPatterns<'p, A>, AllocError>
-        ensures { IfOk result (KeepsParticipants self.entry) }
+        ensures { IfOk result (λ new. (ignores_case : Bool) (texts : List (List ℕ))
+            → AreSorted Standard ignores_case texts self.entry → AreSorted LeftmostFirst ignores_case texts new) }
     {
         let ignores_case = self.ignores_case;
         keep_participants(&mut self.patterns, ignores_case, alloc)?;
@@ -141,8 +142,9 @@ impl<'p, A: Allocator> SortedPatterns<'p, A> {
         requires within { end ≤ length self.now.patterns }
         ensures later { start < result }
         ensures within { result ≤ end }
-        ensures same { ShareByte self.now.patterns depth start result }
-        ensures other { result < end → DifferAt self.now.patterns depth result start }
+        ensures same { (k : ℕ) → start ≤ k → k < result → byte_at self.now.patterns depth k
+            ≡ byte_at self.now.patterns depth start }
+        ensures other { result < end → byte_at self.now.patterns depth result ≢ byte_at self.now.patterns depth start }
     {
         let first = self.byte(start, depth);
         let mut at = start + 1;
@@ -188,7 +190,7 @@ fn listed<'p, A: Allocator>(
     ignores_case: bool,
 ) -> Result<Vec<SortedPattern<'p>, A>, AllocError>
     ensures listed { IfOk result (λ listed. AreListed patterns.now listed.items) }
-    ensures heads { IfOk result (λ listed. All (HasHead ignores_case) listed.items) }
+    ensures heads { IfOk result (λ listed. All (λ m. IsHead m.head (plain ignores_case m.bytes.now)) listed.items) }
     ensures few { IfOk result (λ listed. length listed.items ≤ GREATEST + 1) }
     ensures short { IfOk result (λ listed. AreShort listed.items) }
     ensures numbered { IfOk result (λ listed. AreNumbered listed.items) }
@@ -305,9 +307,11 @@ fn is_shadowed<'p, A: Allocator>(
     ignores_case: bool,
 ) -> bool
     ensures left { prefixes.new.items ≡ take (length prefixes.new.items) prefixes.old.items }
-    ensures gone { DropsNoPrefix ignores_case pattern.now prefixes.old.items prefixes.new.items }
+    ensures gone { AllWithin (λ p. is_prefix ignores_case pattern.now p
+        ≡ false) prefixes.old.items (length prefixes.new.items) (length prefixes.old.items) }
     ensures shadowed { IsTrue result → HasShadow ignores_case pattern.now prefixes.new.items }
-    ensures free { result ≡ false → EndsNoEarlier pattern.now prefixes.new.items }
+    ensures free { result ≡ false → 0 < length prefixes.new.items → HoldsAt
+        (λ p. pattern.now.number ≤ p.number) prefixes.new.items (length prefixes.new.items - 1) }
 {
     let mut left = prefixes.len();
     while left > 0 && !begins_with(pattern.bytes, prefixes[left - 1].bytes, ignores_case) {

@@ -1,8 +1,9 @@
 //! The states of a noncontiguous NFA, and the walks over them.
-ghost use Rattle.std.specs.Prelude.{◌≡◌, ◌+◌, ◌-◌, ◌<◌, ◌≤◌, IfSome, Some, length, slice_index};
+ghost use Rattle.std.specs.Prelude.{◌≡◌, ◌+◌, ◌-◌, ◌<◌, ◌≤◌, IfSome, Some, length, slice_index, slice_get, ◌≢◌, []};
 ghost use Rattle.std.specs.List.Sorted.{IsStrictlyIncreasing};
-ghost use Rattle.ac_automaton.specs.Util.{more_looks, Node, step};
-ghost use Rattle.ac_automaton.specs.Tries.{HasState, IsRoot, IsStateAmong, IsTarget, StaysUnanchored, FollowsTo, TakesLooks, TakesRest, TrieView, all_matches, transition_bytes, dead_state, transitions_of};
+ghost use Rattle.ac_automaton.specs.Util.{more_looks, Node, step, plain_byte};
+ghost use Rattle.ac_automaton.specs.Tries.{HasState, IsRoot, IsStateAmong, IsTarget, TakesLooks, TrieView, all_matches, transition_bytes, dead_state, transitions_of, ForState, TakesMatch};
+ghost use Rattle.ac_automaton.specs.declared.nfa.noncontiguous.state.TheConstants.{ANCHORED_START};
 
 use crate::automaton::MatchRest;
 use ac_util::looks::Looks;
@@ -178,9 +179,12 @@ pub(crate) fn follow(
 ) -> StateID
     requires state { IsStateAmong trie from }
     requires rooted { IfSome trie.root (λ root. IsRoot trie.transitions.now trie.states.now root.now) }
-    ensures steps { FollowsTo trie.entry anchored from byte result }
+    ensures steps { ForState trie.entry from
+        (λ g u. slice_get g.nodes result
+        ≡ Some (step g.kind g.patterns anchored u (plain_byte g.ignores_case byte))) }
     ensures looks { TakesLooks trie.entry anchored from byte looks.old looks.new }
-    ensures unanchored { StaysUnanchored trie.entry from result }
+    ensures unanchored { ForState trie.entry from
+        (λ g u. slice_get g.nodes ANCHORED_START ≡ Some (Some []) → result ≢ ANCHORED_START) }
 {
     let (states, transitions) = (trie.states, trie.transitions);
     let mut at = from;
@@ -232,7 +236,8 @@ pub(crate) fn take_listed(
     rest: MatchRest,
 ) -> Option<(PatternID, MatchRest)>
     requires state { (g : TrieView) × (u : Node) × (g.order ≡ order.now) × HasState g states.now rest.state u }
-    ensures { TakesRest states.now order.now rest result }
+    ensures { (g : TrieView) (u : Node) → g.order ≡ order.now → HasState g states.now rest.state u
+        → TakesMatch g states.now u rest.index result }
 {
     let mut at = rest.state;
     let mut left = rest.index;

@@ -1,6 +1,6 @@
 use Rattle.std.proofs.Common.{List, ◌∷◌, subst, rules, arith}
 use Rattle.ac_search.specs.Occurrence.{Occurrence}
-use Rattle.ac_c.specs.Steps.{StandsIn}
+use Rattle.ac_c.specs.Steps.{StandsInListing}
 use Rattle.ac_c.proofs.ListingSteps.{due-stepped, stands-few, stands-past, stands-stepped}
 use Rattle.ac_c.proofs.overlapping.next.Goals as goal
 
@@ -9,8 +9,8 @@ pub step-requires : goal.step-requires
 step-requires c here =
     let q = c.loop-found.items.search in let rest = c.next.new.self.rest in let m = c.in-Some.found in
     let at = c.loop-found.here.at in let given = c.loop-found.here.given in
-    let stands : StandsIn q (m ∷ rest) at given =
-    subst (λ (left : List Occurrence). StandsIn q left at given) (search rules) c.loop-found.invariant.stands in
+    let stands : StandsInListing q (m ∷ rest) at given =
+    subst (λ (left : List Occurrence). StandsInListing q left at given) (search rules) c.loop-found.invariant.stands in
     let few = stands-few q rest m at given stands (search rules) in
     grind (arith, few, rules)
 

@@ -2,7 +2,7 @@
 ghost use Rattle.std.specs.Prelude.{◌≡◌, ◌+◌, ◌≤◌, ◌++◌, ◌∷◌, IfErr, IfOk, List, [], length};
 ghost use Rattle.ac_automaton.specs.Prelude.{ForNode};
 ghost use Rattle.ac_automaton.specs.Util.{alphabet_len, AreClasses, GREATEST, Node, SetsApart};
-ghost use Rattle.ac_engines.specs.Contiguous.Plans.{ArePlaces, HasFormat, HasMatchLen, HasWords, IsFrontEnd, IsMemoryUnless, MayPack, all_words, has_matches, size_of};
+ghost use Rattle.ac_engines.specs.Contiguous.Plans.{HasFormat, HasMatchLen, HasWords, IsFrontEnd, IsMemoryUnless, MayPack, all_words, has_matches, size_of, HasPlaces};
 
 use super::format::{Format, check_words, format_of, state_words};
 use ac_automaton::automaton::Automaton;
@@ -154,7 +154,8 @@ impl<'a, A: Allocator + Clone> Plan<'a, A> {
     pub(super) fn numbers(&self, alloc: &A, match_end: u64) -> Result<Numbers<A>, BuildError>
         requires may { (nodes : List Node) × MayPack self.now nodes }
         requires front { IsFrontEnd self.now match_end }
-        ensures places { IfOk result (λ numbers. ArePlaces self.now numbers.list.items) }
+        ensures places { IfOk result
+            (λ numbers. (nodes : List Node) → MayPack self.now nodes → HasPlaces self.now nodes numbers.list.items) }
         ensures all { IfOk result (λ numbers. numbers.all ≡ all_words self.now) }
         ensures refused { IfErr result (IsMemoryUnless (all_words self.now)) }
     {

@@ -1,9 +1,10 @@
 //! Reading the words of a state.
-ghost use Rattle.std.specs.Prelude.{◌≡◌, ◌≢◌, ◌+◌, ◌<◌, ◌≤◌, [], drop, length, ⊤};
+ghost use Rattle.std.specs.Prelude.{◌≡◌, ◌≢◌, ◌+◌, ◌<◌, ◌≤◌, [], drop, length, ⊤, ℕ, slice_index};
 ghost use Rattle.ac_util.specs.Input.{more_looks};
 ghost use Rattle.ac_engines.specs.declared.nfa.contiguous.format.Format.{Format};
-ghost use Rattle.ac_engines.specs.Contiguous.Words.{BeginsWith, PackedState};
-ghost use Rattle.ac_engines.specs.Contiguous.Reads.{AreMatchWords, AreNamed, BeginSparse, EachState, IsPlaceIn, LeadsBy, MatchesAt, SomeState, SomeStateOf, SparseLeadsBy, StateOf, transitions_of_state};
+ghost use Rattle.ac_engines.specs.Contiguous.Words.{BeginsWith, PackedState, word_of};
+ghost use Rattle.ac_engines.specs.Contiguous.Reads.{AreMatchWords, AreNamed, EachState, LeadsBy, SomeState, SomeStateOf, SparseLeadsBy, StateOf, transitions_of_state, first_of};
+ghost use Rattle.ac_engines.specs.declared.nfa.contiguous.format.Format.TheVariants.{Sparse};
 
 use super::format::{CLASSES_A_WORD, HEAD};
 use super::transitions::Transitions;
@@ -92,7 +93,8 @@ impl<'a> State<'a> {
     /// Returns where a class leads from a state that has so many transitions, four classes in a word.
     #[inline]
     fn sparse_target(self, transitions: usize, class: u8) -> Option<u32>
-        requires { BeginSparse self.words.now transitions }
+        requires { (classes : ℕ) × (s : PackedState) × BeginsWith self.words.now Sparse classes s
+            × (transitions ≡ length s.edges) }
         ensures { SparseLeadsBy self.entry.words.now transitions class result }
     {
         let (classes, targets) = self.words[HEAD..].split_at(transitions.div_ceil(CLASSES_A_WORD));
@@ -153,7 +155,8 @@ impl<'a> State<'a> {
     #[inline]
     pub(super) fn match_pattern(self, classes: usize, index: usize) -> u32
         requires { SomeStateOf self.words.now classes (λ s. index < length s.matches) }
-        ensures { StateOf self.entry.words.now classes (MatchesAt index result) }
+        ensures { StateOf self.entry.words.now classes
+            (λ format s. index < length s.matches → result ≡ slice_index s.matches index) }
     {
         let words = self.match_words(classes);
         if words[0] >= ONE_MATCH {
@@ -181,7 +184,8 @@ impl<'a> State<'a> {
 /// Returns at which of the four places of a word a class stands first, or 4 where it stands at none.
 #[inline]
 fn place_in(word: u32, class: u8) -> usize
-    ensures { IsPlaceIn word class result }
+    ensures { (a b c d : ℕ) → a < 256 → b < 256 → c < 256 → d < 256 → word ≡ word_of a b c d → result
+        ≡ first_of a b c d class }
 {
     let [first, second, third, fourth] = word.to_le_bytes();
     if first == class {

@@ -1,5 +1,8 @@
 //! The step from state to state along failure links.
-ghost use Rattle.ac_engines.specs.Contiguous.{LooksBy, MayStepBy, StepsBy};
+ghost use Rattle.ac_automaton.specs.Automata.{step_of};
+ghost use Rattle.ac_engines.specs.Contiguous.{ContiguousView, ForStep, IsContiguousState, LooksBy};
+ghost use Rattle.std.specs.Prelude.{ℕ, ◌≡◌, ◌<◌};
+ghost use Rattle.ac_automaton.specs.Util.{Node, class_at};
 
 use super::state::State;
 use ac_automaton::nfa::noncontiguous::DEAD;
@@ -19,8 +22,10 @@ pub(super) fn follow(
     from: StateID,
     looks: &mut Looks,
 ) -> StateID
-    requires state { MayStepBy words.now class anchored from }
-    ensures steps { StepsBy words.now class anchored from result }
+    requires state { (p : ContiguousView) × (b : ℕ) × (u : Node) × (p.words ≡ words.now) × (b < 256)
+        × (class ≡ class_at p.classes b) × IsContiguousState p anchored from u }
+    ensures steps { ForStep words.now class anchored from
+        (λ p b u. IsContiguousState p anchored result (step_of p.built anchored u b)) }
     ensures looks { LooksBy words.now class anchored from looks.old looks.new }
 {
     let mut at = from.as_usize();

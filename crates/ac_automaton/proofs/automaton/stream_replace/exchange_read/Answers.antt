@@ -2,7 +2,8 @@ use Rattle.std.proofs.Common.{◌≡◌, ◌∙◌, ◌+◌, ℕ, List, Some, No
 use Rattle.std.proofs.lemmas.Grind.{common_steps}
 use Rattle.ac_automaton.specs.Prelude.{GivesMatch, PassesPiece, Streaming}
 use Rattle.ac_automaton.proofs.Places.{refused-by}
-use Rattle.ac_automaton.proofs.StreamExchanging.{exchange-fails, fails-further, gap-fails, last-fails, last-flushed, replaced-match}
+use Rattle.ac_automaton.proofs.StreamExchanging.{exchange-fails, gap-fails, replaced-match}
+use Rattle.ac_automaton.proofs.StreamExchanged.{fails-further, last-fails, last-flushed}
 use Rattle.ac_automaton.proofs.automaton.stream_replace.exchange_read.Given.{Over}
 use Rattle.ac_automaton.proofs.automaton.stream_replace.exchange_read.Goals.{After-bytes, After-exchange, After-pass-in-loop-found}
 use Rattle.ac_automaton.proofs.automaton.stream_replace.exchange_read.Goals as goal

@@ -2,8 +2,8 @@ use Rattle.std.proofs.Common.{Bool, subst, MatchBool, arith, rules}
 use Rattle.std.proofs.lemmas.Grind.{common_steps}
 use Rattle.ac_automaton.specs.Streams.{FillsMore, MeetsEnd}
 use Rattle.ac_automaton.proofs.Places.{match-by, refused-by}
-use Rattle.ac_automaton.proofs.StreamExchanging.{begins, ends-there, fails-at-last, fails-exchanging, fails-reading, fills, goes-on, replaces}
-use Rattle.ac_automaton.proofs.StreamFilling.{settled-begun}
+use Rattle.ac_automaton.proofs.StreamReplaced.{begins, ends-there, fails-at-last, fails-exchanging, fails-reading, fills, goes-on, replaces}
+use Rattle.ac_automaton.proofs.StreamBegins.{settled-begun}
 use Rattle.ac_automaton.proofs.automaton.stream_replace.replace_stream.Given.{Over}
 use Rattle.ac_automaton.proofs.automaton.stream_replace.replace_stream.Goals.{After-exchange_read}
 use Rattle.ac_automaton.proofs.automaton.stream_replace.replace_stream.Goals as goal

@@ -1,7 +1,7 @@
 use Rattle.std.proofs.Common.{◌-◌, ◌≤◌, length}
 use Rattle.ac_automaton.specs.Util.{IsNear, Occurrence, usize_max}
 use Rattle.ac_automaton.specs.Streams.{IsSettledIn}
-use Rattle.ac_automaton.proofs.StreamExchanging.{IsReplacing}
+use Rattle.ac_automaton.proofs.StreamReplaced.{IsReplacing}
 use Rattle.ac_automaton.proofs.automaton.stream_replace.replace_stream.Given as goal
 
 -- all matches of what was read that are settled were exchanged, and all that is settled was written

@@ -1,6 +1,6 @@
 use Rattle.std.proofs.Common.{◌≡◌, ℕ, ◌-◌, ◌<◌, List, [], ◌∷◌, length, length-append, refl, ap, sym, ◌∙◌, subst, arith, Some, slice_get}
 use Rattle.std.proofs.lemmas.Option.{slice_get_past}
-use Rattle.ac_automaton.specs.Commits.{chain_at, match_of}
+use Rattle.ac_automaton.specs.Commits.{chain_at, linked_match}
 use Rattle.ac_automaton.proofs.Chains.{chain-none, get-front, get-last, IsLast, link-read}
 use Rattle.ac_automaton.proofs.automaton.commits.Chains.get.Given.{Over}
 use Rattle.ac_automaton.proofs.automaton.commits.Chains.get.Goals as goal
@@ -22,9 +22,9 @@ module _ (g : Over) (c : After-index-link g) where
       ≡ slice_get (chain_at c.args.self.now c.index-link.result.now.before) c.args.index
   before-match within other =
       let before = chain_at c.args.self.now c.index-link.result.now.before in
-      let long = last.count ∙ ap length last.grows ∙ length-append before (match_of c.index-link.result.now ∷ []) in
+      let long = last.count ∙ ap length last.grows ∙ length-append before (linked_match c.index-link.result.now ∷ []) in
       get-front before (chain_at c.args.self.now c.loop-at.at) c.args.index
-      (record { rest = match_of c.index-link.result.now ∷ []; whole = last.grows }) (omega (arith, other))
+      (record { rest = linked_match c.index-link.result.now ∷ []; whole = last.grows }) (omega (arith, other))
 
 pub index-link-requires : goal.index-link-requires
 index-link-requires g c =
@@ -42,7 +42,7 @@ pub returns-then-link-index-2 : goal.returns-then-link-index-2
 returns-then-link-index-2 g c =
     let l = last g (goal.at.returns-then-link-index-2 g c).After-index-link in
     sym (c.loop-at.invariant.same
-    ∙ subst (λ (index : ℕ). slice_get (chain_at c.args.self.now c.loop-at.at) index ≡ Some (match_of c.index-link.result.now))
+    ∙ subst (λ (index : ℕ). slice_get (chain_at c.args.self.now c.loop-at.at) index ≡ Some (linked_match c.index-link.result.now))
     c.if-link-index-2.true (get-last l))
 
 pub count-requires : goal.count-requires

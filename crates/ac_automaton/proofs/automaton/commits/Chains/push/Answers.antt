@@ -1,7 +1,7 @@
 use Rattle.std.proofs.Common.{◌≡◌, ℕ, ◌+◌, List, [], ◌∷◌, length, length-append, ap, sym, ◌∙◌, subst, arith}
 use Rattle.ac_automaton.specs.declared.automaton.commits.ChainMatch.{ChainMatch}
 use Rattle.ac_automaton.specs.declared.automaton.commits.Link.{Link}
-use Rattle.ac_automaton.specs.Commits.{AreLinks, chains_of, GrowsBy, match_of}
+use Rattle.ac_automaton.specs.Commits.{AreLinks, chains_of, GrowsBy, linked_match}
 use Rattle.ac_automaton.proofs.Chains.{chain-added, IsAdded, links-added}
 use Rattle.ac_automaton.proofs.automaton.commits.Chains.push.Given.{Over}
 use Rattle.ac_automaton.proofs.automaton.commits.Chains.push.Goals as goal
@@ -42,8 +42,8 @@ returns g c =
     let number : c.len.result ≡ length links + 1 =
     c.len.ensures ∙ new.ok.0 ∙ ap length c.in_ok-push.ensures.items ∙ length-append links (link g at ∷ []) in
     rw number
-    (subst (λ (old : List (List ChainMatch)). GrowsBy old c.args.before (match_of (link g at) ∷ []) (chains_of new.items)
+    (subst (λ (old : List (List ChainMatch)). GrowsBy old c.args.before (linked_match (link g at) ∷ []) (chains_of new.items)
     (length links + 1)) c.self.view_is
-    (subst (λ (items : List Link). GrowsBy (chains_of links) c.args.before (match_of (link g at) ∷ []) (chains_of items)
+    (subst (λ (items : List Link). GrowsBy (chains_of links) c.args.before (linked_match (link g at) ∷ []) (chains_of items)
     (length links + 1)) (sym c.in_ok-push.ensures.items)
     (chain-added links c.self.invariant (link g at) (added g at))))

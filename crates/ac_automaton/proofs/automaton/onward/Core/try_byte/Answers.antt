@@ -4,7 +4,8 @@ use Rattle.ac_automaton.specs.Util.{No}
 use Rattle.ac_automaton.specs.Reads.{point, ReadsOn, Tries}
 use Rattle.ac_automaton.specs.Scans.{work_of}
 use Rattle.ac_automaton.specs.Cores.{scan_by}
-use Rattle.ac_automaton.proofs.ReadingOn.{hand-before, reads-byte, reads-nothing, stops-byte, tries-hand}
+use Rattle.ac_automaton.proofs.ReadingOn.{reads-nothing}
+use Rattle.ac_automaton.proofs.TriedBytes.{hand-before, reads-byte, stops-byte, tries-hand}
 use Rattle.ac_automaton.proofs.automaton.onward.Core.try_byte.Given.{Over}
 use Rattle.ac_automaton.proofs.automaton.onward.Core.try_byte.Goals.{After-is_dead}
 use Rattle.ac_automaton.proofs.automaton.onward.Core.try_byte.Goals as goal

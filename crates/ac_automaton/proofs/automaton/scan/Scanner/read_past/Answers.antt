@@ -3,7 +3,8 @@ use Rattle.std.proofs.lemmas.Bool.{false≢true}
 use Rattle.ac_automaton.specs.Util.{Node}
 use Rattle.ac_automaton.specs.Prelude.{Lists, Scan, scanner}
 use Rattle.ac_automaton.specs.Reads.{MayRead, point}
-use Rattle.ac_automaton.proofs.ReadingOn.{may-go-on, piece-byte, piece-dead, reading-first, reading-piece, stops-end, stops-piece}
+use Rattle.ac_automaton.proofs.ReadingOn.{may-go-on, reading-first, reading-piece, stops-end, stops-piece}
+use Rattle.ac_automaton.proofs.TriedBytes.{piece-byte, piece-dead}
 use Rattle.ac_automaton.proofs.automaton.scan.Scanner.read_past.Given.{Over}
 use Rattle.ac_automaton.proofs.automaton.scan.Scanner.read_past.Goals.{After-read_byte-byte}
 use Rattle.ac_automaton.proofs.automaton.scan.Scanner.read_past.Goals as goal

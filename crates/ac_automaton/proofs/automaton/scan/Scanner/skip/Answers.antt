@@ -2,7 +2,7 @@ use Rattle.std.proofs.Common.{◌≡◌, ◌⊎◌, ◌≤◌, ◌<◌, ℕ, Non
 use Rattle.std.proofs.lemmas.Bool.{false≢true}
 use Rattle.ac_automaton.specs.Prelude.{Scan, scanner}
 use Rattle.ac_automaton.specs.Reads.{MayRead, point}
-use Rattle.ac_automaton.proofs.ReadingOn.{piece-byte, piece-dead}
+use Rattle.ac_automaton.proofs.TriedBytes.{piece-byte, piece-dead}
 use Rattle.ac_automaton.proofs.Skipping.{may-skipped, piece-skipped, skipped-end}
 use Rattle.ac_automaton.proofs.automaton.scan.Scanner.skip.Given.{Over}
 use Rattle.ac_automaton.proofs.automaton.scan.Scanner.skip.Goals.{After-read_byte-byte, In-Some}

@@ -1,6 +1,6 @@
 use Rattle.std.proofs.Common.{◌∙◌, ap, length, sym, rules}
 use Rattle.ac_automaton.specs.Prelude.{Streaming}
-use Rattle.ac_automaton.proofs.StreamFilling.{streams-cleared}
+use Rattle.ac_automaton.proofs.StreamMoving.{streams-cleared}
 use Rattle.ac_automaton.proofs.automaton.stream.StreamFinder.clear.Goals as goal
 
 -- the search stands where it did, with nothing in its buffer

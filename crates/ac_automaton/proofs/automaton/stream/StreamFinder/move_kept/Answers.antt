@@ -1,7 +1,7 @@
 use Rattle.std.proofs.Common.{◌-◌, ◌∙◌, ap, arith, take}
 use Rattle.std.proofs.lemmas.Grind.{common_steps}
 use Rattle.ac_automaton.specs.Prelude.{Streaming}
-use Rattle.ac_automaton.proofs.StreamFilling.{kept-moved, streams-moved}
+use Rattle.ac_automaton.proofs.StreamMoving.{kept-moved, streams-moved}
 use Rattle.ac_automaton.proofs.automaton.stream.StreamFinder.move_kept.Goals as goal
 
 -- the search stands where it did

@@ -2,7 +2,7 @@ use Rattle.std.proofs.Common.{◌≡◌, ◌≢◌, ◌∙◌, true, refl, lengt
 use Rattle.std.proofs.lemmas.Grind.{common_steps}
 use Rattle.ac_automaton.specs.Util.{buffer_len, is_leftmost, LeftmostFirst, LeftmostLongest, MatchKind, Standard}
 use Rattle.ac_automaton.proofs.Places.{refused-by}
-use Rattle.ac_automaton.proofs.StreamFilling.{most-kept, streams-begin}
+use Rattle.ac_automaton.proofs.StreamBegins.{most-kept, streams-begin}
 use Rattle.ac_automaton.proofs.StreamRefusals.{not-refused, refused-empty}
 use Rattle.ac_automaton.proofs.automaton.stream.StreamFinder.new.Given.{Over}
 use Rattle.ac_automaton.proofs.automaton.stream.StreamFinder.new.Goals.{After-empty, in-Standard, in_default}

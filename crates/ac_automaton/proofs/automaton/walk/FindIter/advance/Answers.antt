@@ -4,7 +4,7 @@ use Rattle.ac_automaton.specs.Onward.{kept_work}
 use Rattle.ac_automaton.specs.declared.automaton.onward.Onward.{Onward}
 use Rattle.ac_automaton.specs.Prelude.{GoesOn, IsByFinds, last_after, walking_of, work_of}
 use Rattle.ac_automaton.proofs.WalkLoop.{HasGone, has-gone}
-use Rattle.ac_automaton.proofs.WalkOnce.{keeps-finds, kept-finds, kept-reads, none-from}
+use Rattle.ac_automaton.proofs.WalkKept.{keeps-finds, kept-finds, kept-reads, none-from}
 use Rattle.ac_automaton.proofs.automaton.walk.FindIter.advance.Given.{Over}
 use Rattle.ac_automaton.proofs.automaton.walk.FindIter.advance.Goals.{After-after-self-inside}
 use Rattle.ac_automaton.proofs.automaton.walk.FindIter.advance.Goals as goal

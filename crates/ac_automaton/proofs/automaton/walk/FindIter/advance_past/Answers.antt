@@ -3,7 +3,8 @@ use Rattle.ac_automaton.specs.Util.{Taped}
 use Rattle.ac_automaton.specs.Prelude.{last_after, walking_of}
 use Rattle.ac_automaton.specs.Onward.{IsKept, kept_work, reached_by}
 use Rattle.ac_automaton.specs.declared.automaton.onward.Onward.{Onward}
-use Rattle.ac_automaton.proofs.WalkOnce.{fresh, fresh-goes, gone-goes, gone-past, HasGonePast, kept-over, kept-past, may-next}
+use Rattle.ac_automaton.proofs.WalkOnce.{fresh, fresh-goes, HasGonePast, may-next}
+use Rattle.ac_automaton.proofs.WalkKept.{gone-goes, gone-past, kept-over, kept-past}
 use Rattle.ac_automaton.proofs.automaton.walk.FindIter.advance_past.Given.{Over}
 use Rattle.ac_automaton.proofs.automaton.walk.FindIter.advance_past.Goals.{After-after-self-inside}
 use Rattle.ac_automaton.proofs.automaton.walk.FindIter.advance_past.Goals as goal

@@ -1,6 +1,6 @@
 use Rattle.std.proofs.Common.{length, ap, rules, arith}
 use Rattle.ac_automaton.specs.Util.{Span, Taped}
-use Rattle.ac_automaton.proofs.WalkOnce.{kept-first, work-first}
+use Rattle.ac_automaton.proofs.WalkBegins.{kept-first, work-first}
 use Rattle.ac_automaton.proofs.automaton.walk.FindIter.new.Goals as goal
 
 -- the walk begins where its span does

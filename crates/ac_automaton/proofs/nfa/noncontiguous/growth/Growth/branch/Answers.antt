@@ -3,7 +3,7 @@ use Rattle.ac_automaton.specs.Prelude.{EndsPatterns, grown_view, HasBranched, Ha
 use Rattle.ac_automaton.specs.Growths.{IsQueueReady}
 use Rattle.ac_automaton.proofs.Branched.{has-branched, link-due, still-meant, whole_state}
 use Rattle.ac_automaton.proofs.Branching.{IsBranching, IsBranchingFrom, IsRun, Site, branching-begins, child-deep, goes-on, has-child, string}
-use Rattle.ac_automaton.proofs.Child.{branching-goes_on}
+use Rattle.ac_automaton.proofs.ChildTransitions.{branching-goes_on}
 use Rattle.ac_automaton.proofs.Places.{refused-by, written-whole}
 use Rattle.ac_automaton.proofs.StateCount.{refused}
 use Rattle.ac_automaton.proofs.nfa.noncontiguous.growth.Growth.branch.Given.{Over}

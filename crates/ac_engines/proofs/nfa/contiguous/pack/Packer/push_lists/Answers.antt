@@ -1,14 +1,16 @@
 use Rattle.std.proofs.Common.{◌≡◌, ◌++◌, sym, subst, ◌∙◌, [], ap, List, map, Some, IfOk, slice_get}
 use Rattle.std.specs.List.Sorted.{IsStrictlyIncreasing}
-use Rattle.ac_automaton.specs.Util.{alphabet_len, No, Node}
+use Rattle.ac_automaton.specs.Util.{alphabet_len, No, Node, Yes}
 use Rattle.ac_automaton.specs.Prelude.{AreNodes, matches_of, Trie}
-use Rattle.ac_engines.specs.Prelude.{anchored_of, AreReady, Edge, format_for, MayPack, packed_of, Packer, PackPlan, places_of, packed_state}
+use Rattle.ac_engines.specs.Prelude.{AreReady, Edge, format_for, MayPack, packed_of, Packer, PackPlan, places_of, packed_state}
 use Rattle.ac_engines.specs.Listed.{HasNode}
 use Rattle.ac_engines.proofs.PackedForms.{format_words-by_parts, state-spells}
 use Rattle.ac_engines.proofs.PackedNodes.{matches-packed_at}
 use Rattle.ac_engines.proofs.nfa.contiguous.pack.Packer.push_lists.Given.{Over}
 use Rattle.ac_engines.proofs.nfa.contiguous.pack.Packer.push_lists.Goals.{After-alphabet_len}
 use Rattle.ac_engines.proofs.nfa.contiguous.pack.Packer.push_lists.Goals as goal
+use Rattle.std.specs.Prelude.{if◌then◌else◌, nat_eq}
+use Rattle.ac_automaton.specs.declared.nfa.noncontiguous.state.TheConstants.{ANCHORED_START}
 
 module _ (g : Over) (c : After-alphabet_len g) (nodes : List Node) (u : Node) (ready : AreReady c.args.self.now nodes)
     (named : slice_get nodes c.args.sid ≡ Some u) where
@@ -23,7 +25,8 @@ module _ (g : Over) (c : After-alphabet_len g) (nodes : List Node) (u : Node) (r
       subst (λ (t : Trie). c.deref-2.result.now ≡ matches_of t.built No u) trie
       (c.deref-2.ensures.value
       ∙ c.in_ok-list_matches.ensures nodes u (subst (λ (t : Trie). AreNodes t nodes) (sym trie) ready.may.are_nodes) named)
-      ∙ sym (matches-packed_at (packed_of f.plan nodes f.numbers []) (places_of f.plan nodes f.numbers) (anchored_of c.args.sid) u)
+      ∙ sym (matches-packed_at (packed_of f.plan nodes f.numbers []) (places_of f.plan nodes f.numbers)
+      (if nat_eq c.args.sid ANCHORED_START then Yes else No) u)
 
   form : c.format.result ≡ format_for c.args.self.now.plan u
   form =
