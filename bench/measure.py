@@ -361,6 +361,7 @@ class Bench:
         self.grow_haystacks()
         self.grow_patterns()
         self.grow_matches()
+        self.grow_chains()
         print()
 
     def grow_haystacks(self):
@@ -386,6 +387,13 @@ class Bench:
         words = [self.made("as-%d" % n, ("a" * k for k in range(1, n + 1))) for n in (4, 8, 16, 32)]
         self.grow("matches: overlap std, from a to 32 a's, in %s MB of a's" % number(self.size / 8e7),
                   [self.step(patterns, hay, "overlap") for patterns in words], empty)
+
+    def grow_chains(self):
+        """Prints what more matches in one chain do to a leftmost walk, which has read them all before it gives the first."""
+        sizes = self.doubled(100_000)
+        words = [self.made("chain-%d" % n, ["a", "a" * n + "b"]) for n in sizes]
+        self.grow("chain: walk longest, a and %d a's and a b, in as many a's" % sizes[-1],
+                  [self.step(patterns, self.cut("mass", n), "walk", "longest") for n, patterns in zip(sizes, words)], empty)
 
     def lengths(self):
         """Prints what a longer pattern does to a leftmost search, and to a Standard one, beside another program."""

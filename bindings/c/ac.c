@@ -39,6 +39,16 @@ int32_t ac_open(const ac_options *options, const void *bytes, size_t bytes_len, 
     return status;
 }
 
+int32_t ac_clone(const ac_searcher *searcher, ac_searcher *out) {
+    if (!is_open(searcher) || !out || out->at)
+        return AC_ARGUMENTS;
+    ac_raw_reader reader = reader_of(searcher);
+    ac_raw_handle handle = {0};
+    int32_t status = ac_raw_clone(&reader, &handle);
+    out->at = handle.at;
+    return status;
+}
+
 void ac_close(ac_searcher *searcher) {
     if (!is_open(searcher))
         return;

@@ -28,9 +28,18 @@
    - A pointer with a length points to that many bytes, numbers or matches, which may be read, and written if the call writes
      there. If the length is 0 the pointer may be null.
    - What a call writes does not overlap what the same call reads.
-   - A searcher is empty, which is all zero, or comes from ac_open and wasn't closed. A copy of the struct is the same
-     searcher: closing one closes both.
-   - No two threads use one searcher at the same time. Each thread may open its own. */
+   - A searcher is empty, which is all zero, or comes from ac_open or ac_clone and wasn't closed. A copy of the struct is the
+     same searcher: closing one closes both.
+
+   Threads. Any number of them may use one searcher at once, in the calls that take a `const ac_searcher *`: they leave it
+   as it was, and no search waits for another. The caller owes that
+   - what one call writes (a cursor, matches, numbers, another searcher) no other call uses meanwhile: a walk or a listing is
+     for one thread at a time, but many walks may go over one searcher at once;
+   - ac_close waits for all: it is called once every other call with this searcher has returned;
+   - between threads these are ordered, as the use of a searcher after ac_open or ac_clone is: by the start or the join of a
+     thread, a lock, or an atomic of memory_order_seq_cst;
+   - a signal handler uses no searcher, and no clone of one, that a call may be using.
+   With ac_clone each thread has a searcher of its own, which it closes when it likes. */
 #ifndef AC_H
 #define AC_H
 #include <stddef.h>
@@ -58,7 +67,7 @@ enum { AC_STANDARD = 0, AC_LEFTMOST_FIRST = 1, AC_LEFTMOST_LONGEST = 2 };       
 enum { AC_START_UNANCHORED = 0, AC_START_ANCHORED = 1, AC_START_BOTH = 2 };                  /* start_kind */
 enum { AC_AUTO = 0, AC_NONCONTIGUOUS_NFA = 1, AC_CONTIGUOUS_NFA = 2, AC_DFA = 3 };           /* engine */
 
-/* A searcher. Who opens it owns it, and has to close it. */
+/* A searcher. Who opens or clones it owns it, and has to close it. */
 typedef struct ac_searcher { void *at; } ac_searcher;
 #define AC_EMPTY { 0 }
 
@@ -89,6 +98,11 @@ uint32_t ac_version(void);
    AC_LIMIT. */
 int32_t ac_open(const ac_options *options, const void *bytes, size_t bytes_len, const size_t *ends, size_t ends_len,
                 ac_searcher *out);
+
+/* Leaves in `out` a searcher that does the same. Both share one engine, so this takes no time and a few bytes; each has to be
+   closed, and the last one frees the engine. AC_OK; AC_ARGUMENTS if `out` isn't empty; AC_MEMORY. Unless it is AC_OK, `out`
+   is as it was. */
+int32_t ac_clone(const ac_searcher *searcher, ac_searcher *out);
 
 /* Frees a searcher, and leaves it empty. Does nothing if it is empty or null. */
 void ac_close(ac_searcher *searcher);

@@ -15,6 +15,10 @@ int32_t ac_raw_open(const ac_options *options, const uint8_t *bytes, size_t byte
     return is_right(options && bytes && !bytes_len && ends && !ends_len && out);
 }
 
+int32_t ac_raw_clone(ac_raw_reader *searcher, ac_raw_handle *out) {
+    return is_right(searcher->at && out);
+}
+
 void ac_raw_close(ac_raw_handle handle) {
     (void)handle;
 }
@@ -62,6 +66,7 @@ int main(void) {
     size_t number;
     const int32_t statuses[] = {
         ac_open(&options, NULL, 0, NULL, 0, &empty),
+        ac_clone(&searcher, &empty),
         ac_describe(&searcher, &facts),
         ac_find(&searcher, NULL, 0, &span, &match),
         ac_is_match(&searcher, NULL, 0, &span),

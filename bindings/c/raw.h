@@ -1,18 +1,19 @@
 /* The exports of the proved static library ac_c. They do what ac.h says, but test no pointer: ac.c does, and the types of
-   ../rust do. A slice is a pointer and a length, and its pointer isn't null, even if the length is 0. ac_raw_open frees the
-   searcher that `out` held, unless it returns an error. */
+   ../rust do. A slice is a pointer and a length, and its pointer isn't null, even if the length is 0. ac_raw_open and
+   ac_raw_clone free the searcher that `out` held, unless they return an error. */
 #ifndef AC_RAW_H
 #define AC_RAW_H
 #include "ac.h"
 
 /* A searcher on the heap, or none where `at` is null. */
 typedef struct ac_raw_handle { void *at; } ac_raw_handle;
-/* The right to read one: `at` is that of a handle, and isn't null. */
+/* The right to read one: `at` is that of a handle, and isn't null. Each call has one of its own. */
 typedef struct ac_raw_reader { const void *at; } ac_raw_reader;
 
 uint32_t ac_raw_version(void);
 int32_t ac_raw_open(const ac_options *options, const uint8_t *bytes, size_t bytes_len, const size_t *ends, size_t ends_len,
                     ac_raw_handle *out);
+int32_t ac_raw_clone(ac_raw_reader *searcher, ac_raw_handle *out);
 void ac_raw_close(ac_raw_handle handle);
 void ac_raw_facts(ac_raw_reader *searcher, ac_facts *out);
 int32_t ac_raw_find(ac_raw_reader *searcher, const uint8_t *haystack, size_t haystack_len, const ac_span *span, ac_match *out);

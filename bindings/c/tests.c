@@ -253,6 +253,25 @@ static void check_facts(void) {
     }
 }
 
+/* A clone does what its searcher does, whichever of them is closed first, and a clone of a clone does too. */
+static void check_clones(void) {
+    for (uint32_t i = 0; i < 8; i++) {
+        ac_searcher searcher = opened(options_of(AC_STANDARD, AC_START_UNANCHORED, i / 2), "append|appendage|app|");
+        ac_searcher clone = AC_EMPTY, second = AC_EMPTY;
+        ac_facts facts, cloned;
+        CHECK(ac_clone(&searcher, &clone) == AC_OK && clone.at && clone.at != searcher.at);
+        CHECK(ac_clone(&clone, &second) == AC_OK && second.at && second.at != clone.at);
+        CHECK(ac_describe(&searcher, &facts) == AC_OK && ac_describe(&second, &cloned) == AC_OK);
+        CHECK(facts.engine == cloned.engine && facts.patterns == cloned.patterns && facts.memory == cloned.memory);
+        ac_close(i % 2 ? &searcher : &second);
+        CHECK(gives(ac_walk, &clone, hobbits, whole(hobbits), 2, "2:0-3 2:11-14 2:22-25 "));
+        ac_close(&clone);
+        CHECK(gives(ac_walk, i % 2 ? &second : &searcher, hobbits, whole(hobbits), 2, "2:0-3 2:11-14 2:22-25 "));
+        ac_close(&searcher);
+        ac_close(&second);
+    }
+}
+
 /* Null stands for an empty slice, and is refused anywhere else, as an empty searcher is. */
 #define REFUSES(call) CHECK((call) == AC_ARGUMENTS)
 
@@ -298,6 +317,15 @@ static void check_pointers_of_finds(const ac_searcher *searcher) {
     REFUSES(ac_describe(searcher, NULL));
 }
 
+static void check_pointers_of_clone(const ac_searcher *searcher) {
+    ac_searcher clone = AC_EMPTY, full = *searcher;
+    REFUSES(ac_clone(&empty, &clone));
+    REFUSES(ac_clone(NULL, &clone));
+    REFUSES(ac_clone(searcher, NULL));
+    REFUSES(ac_clone(searcher, &full));
+    CHECK(!clone.at && full.at == searcher->at);
+}
+
 static void check_pointers_of_batches(search *by, const ac_searcher *searcher) {
     ac_cursor cursor = {0, 0};
     ac_match match;
@@ -333,6 +361,7 @@ static void check_pointers_of_replace(const ac_searcher *searcher) {
 static void check_pointers(void) {
     ac_searcher searcher = check_pointers_of_open();
     check_pointers_of_finds(&searcher);
+    check_pointers_of_clone(&searcher);
     check_pointers_of_batches(ac_walk, &searcher);
     check_pointers_of_batches(ac_overlapping, &searcher);
     check_pointers_of_replace(&searcher);
@@ -381,12 +410,24 @@ static void check_replaces(void) {
 
 static const char *pronouns = "he|her|his|hers||";
 
-/* An opening, or a replacement by an open searcher: the status says that there was no memory, and nothing has changed. */
+/* An opening, or a clone of an open searcher or a replacement by it: the status says that there was no memory, and nothing
+   has changed. */
 static int open_scarce(ac_options options, ac_searcher *searcher) {
     int32_t status = open_words(&options, pronouns, searcher);
     int is_right = status == AC_OK ? searcher->at != NULL : status == AC_MEMORY && !searcher->at;
     granted = -1;
     ac_close(searcher);
+    return is_right;
+}
+
+static int clone_scarce(ac_options options, ac_searcher *searcher) {
+    ac_searcher clone = AC_EMPTY;
+    int32_t status = ac_clone(searcher, &clone);
+    (void)options;
+    granted = -1;
+    int is_right = status == AC_OK ? clone.at != NULL : status == AC_MEMORY && !clone.at;
+    is_right = is_right && ac_describe(searcher, &(ac_facts){0}) == AC_OK;
+    ac_close(&clone);
     return is_right;
 }
 
@@ -416,10 +457,10 @@ static void check_refusals(void) {
         ac_searcher searcher = AC_EMPTY;
         lasting = i >= 36;
         CHECK(refuse_each(open_scarce, options, &searcher) > 0);
-        if (options.start_kind == AC_START_ANCHORED)
-            continue;
         searcher = opened(options, pronouns);
-        CHECK(refuse_each(replace_scarce, options, &searcher) > 0);
+        CHECK(refuse_each(clone_scarce, options, &searcher) == 1);
+        if (options.start_kind != AC_START_ANCHORED)
+            CHECK(refuse_each(replace_scarce, options, &searcher) > 0);
         ac_close(&searcher);
     }
 }
@@ -507,6 +548,7 @@ int main(void) {
     check_anchored();
     check_opens();
     check_facts();
+    check_clones();
     check_pointers();
     check_wild_cursors();
     check_replaces();

@@ -9,7 +9,6 @@ The variable AC_LIBRARY may name that file. Else it is looked for beside this on
 import collections
 import ctypes
 import os
-import threading
 
 VERSION = 100
 BATCH = 512  # matches that one call may find
@@ -129,6 +128,22 @@ def _number(names, name, what):
     return names.index(name)
 
 
+class _Open:
+    """An open searcher of the library. Whoever calls the library refers to it, and with the last reference it is closed."""
+
+    def __init__(self):
+        self.searcher, self._close = _Searcher(), _library.ac_close
+
+    def __del__(self):
+        self._close(self.searcher)
+
+    def __deepcopy__(self, memo):
+        return self
+
+    def __reduce__(self):
+        raise TypeError("a searcher can't be pickled; build one from its patterns")
+
+
 class AhoCorasick:
     """A searcher for patterns, which are all str or all bytes; haystacks then are the same.
 
@@ -141,13 +156,14 @@ class AhoCorasick:
 
     In text all offsets count characters, and an empty pattern matches between characters, but not inside one. Each call
     encodes its text: for many calls over one long text, search bytes.
-    close() frees the memory; so do the end of a with block and the garbage collector. Threads may share a searcher, and its
-    calls take turns.
+    close() frees the memory; so do the end of a with block and the garbage collector. Threads may share a searcher: their
+    calls run at once, and none waits for another. A copy is a searcher of its own, which shares the memory; it is freed
+    once no searcher and no running call needs it.
     """
 
     def __init__(self, patterns, kind="standard", ignore_case=False, engine=None, start="unanchored", prefilter=True,
                  byte_classes=True, dense_depth=2):
-        self._lock, self._searcher, self._close = threading.Lock(), _Searcher(), _library.ac_close
+        self._open = None
         if isinstance(patterns, (str, bytes)):
             raise TypeError("patterns are a list of str or of bytes, and not one of them")
         patterns = list(patterns)
@@ -159,24 +175,23 @@ class AhoCorasick:
         options = _Options(_number(KINDS, kind, "kind"), _number(STARTS, start, "start"), _number(ENGINES, engine, "engine"),
                            bool(ignore_case), bool(prefilter), bool(byte_classes), dense_depth)
         data, ends = _joined([self._bytes_of(pattern) for pattern in patterns])
-        _raise_on(_library.ac_open(options, data, len(data), ends, len(ends), self._searcher))
+        opened = _Open()
+        _raise_on(_library.ac_open(options, data, len(data), ends, len(ends), opened.searcher))
+        self._open = opened
         facts = _Facts()
         self._call(_library.ac_describe, facts)
         self.engine, self.memory_usage = ENGINES[facts.engine], facts.memory
 
     def close(self):
-        """Frees the memory. Searches are refused from then on."""
-        with self._lock:
-            self._close(self._searcher)
+        """Ends the searcher: calls are refused from then on. Those that are running end as usual, and the last one frees the
+        memory, if no copy of the searcher is open."""
+        self._open = None
 
     def __enter__(self):
         return self
 
     def __exit__(self, *_):
         self.close()
-
-    def __del__(self):
-        self._close(self._searcher)
 
     def __len__(self):
         return len(self._lengths)
@@ -239,11 +254,11 @@ class AhoCorasick:
         return "".join(pieces) + haystack[at:]
 
     def _call(self, call, *arguments):
-        """Calls the library, and returns the status if it is no error."""
-        with self._lock:
-            if not self._searcher.at:
-                raise ArgumentError("the searcher is closed")
-            status = call(self._searcher, *arguments)
+        """Calls the library, and returns the status if it is no error. Nothing is locked: the call has its own reference."""
+        opened = self._open
+        if opened is None:
+            raise ArgumentError("the searcher is closed")
+        status = call(opened.searcher, *arguments)
         _raise_on(status)
         return status
 

@@ -1,11 +1,19 @@
 """Tests of the module."""
+import copy
 import gc
 import itertools
+import os
 import pathlib
+import pickle
+import signal
 import subprocess
 import sys
 import threading
+import time
 import unittest
+import unittest.mock
+import warnings
+import weakref
 
 import ahocorasick_rattle
 from ahocorasick_rattle import (BATCH, ENGINES, KINDS, AhoCorasick, AnchoredError, ArgumentError, Error, LimitError, Match,
@@ -22,6 +30,21 @@ try:
     ahocorasick_rattle.AhoCorasick(patterns, engine="dfa")
 except MemoryError:
     print("refused", ahocorasick_rattle.AhoCorasick(["a"]).count("aba"))
+"""
+SIGNALS = """
+import signal, ahocorasick_rattle
+searcher, haystack, counts = ahocorasick_rattle.AhoCorasick([b"ab", b"b"]), b"xxab" * 50_000, []
+
+def search(*_):
+    counts.append(searcher.count(haystack))
+    signal.setitimer(signal.ITIMER_REAL, 0.001)
+
+signal.signal(signal.SIGALRM, search)
+search()
+while len(counts) < 50:
+    assert searcher.count(haystack) == 50_000
+signal.setitimer(signal.ITIMER_REAL, 0)
+print(set(counts))
 """
 
 
@@ -160,10 +183,29 @@ class Lives(unittest.TestCase):
     def test_dropping(self):
         """A searcher that nothing refers to is closed."""
         searcher, closed = AhoCorasick(["a"]), []
-        close, searcher._close = searcher._close, lambda it: closed.append(close(it))
+        close, searcher._open._close = searcher._open._close, lambda it: closed.append(close(it))
         del searcher
         gc.collect()
         self.assertEqual([None], closed)
+
+    def test_copies(self):
+        """Each is a searcher of its own: what is closed or dropped leaves the others open. None can be pickled."""
+        for copied in (copy.copy, copy.deepcopy, lambda it: copy.copy(copy.deepcopy([it])[0])):
+            searcher = AhoCorasick(["a", "b"])
+            memory, others = weakref.ref(searcher._open), [copied(searcher), copied(searcher)]
+            others.pop().close()
+            self.assertEqual((2, "dfa", 3), (len(others[0]), others[0].engine, others[0].count("abc a")))
+            searcher.close()
+            self.assertRaisesRegex(ArgumentError, "closed", searcher.count, "ab")
+            self.assertRaisesRegex(ArgumentError, "closed", copied(searcher).count, "ab")
+            del searcher
+            gc.collect()
+            self.assertEqual([Match(1, 1, 2)], list(others[0].find_iter("xb")))
+            self.assertIsNotNone(memory())
+            others.pop()
+            gc.collect()
+            self.assertIsNone(memory())
+        self.assertRaises(TypeError, pickle.dumps, AhoCorasick(["a"]))
 
     def test_an_iterator_keeps_its_searcher(self):
         """It needs no other reference to it, or to the haystack."""
@@ -171,16 +213,112 @@ class Lives(unittest.TestCase):
         gc.collect()
         self.assertEqual(2 * BATCH, sum(1 for _ in matches))
 
-    def test_threads_take_turns(self):
-        """They may share a searcher."""
-        searcher, counts = AhoCorasick(FRUIT.split()), []
-        work = [threading.Thread(target=lambda: counts.extend(
-            sum(1 for _ in searcher.find_iter(FRUIT * 50)) for _ in range(20))) for _ in range(4)]
-        for thread in work:
+
+
+class Threads(unittest.TestCase):
+    """What many threads, processes and signals may do with one searcher."""
+
+    @staticmethod
+    def at_once(works):
+        """Runs these in a thread each, up to their ends."""
+        threads = [threading.Thread(target=work) for work in works]
+        for thread in threads:
             thread.start()
-        for thread in work:
+        for thread in threads:
             thread.join()
-        self.assertEqual([8 * 50] * 80, counts)
+
+    @staticmethod
+    def meeting(name, meet):
+        """Replaces a call of the library by one that first calls `meet`."""
+        call = getattr(ahocorasick_rattle._library, name)
+        return unittest.mock.patch.object(ahocorasick_rattle._library, name, lambda *arguments: meet() or call(*arguments))
+
+    def test_threads_share_a_searcher(self):
+        """Each has the answers that one alone has."""
+        searcher, text, answers = AhoCorasick(FRUIT.split()), FRUIT * 50, []
+        wanted = (list(searcher.find_iter(text)), list(searcher.find_overlapping_iter(text)), searcher.count(text),
+                  searcher.replace_all(text, FRUIT.split()[::-1]))
+        self.at_once([lambda: answers.extend(
+            (list(searcher.find_iter(text)), list(searcher.find_overlapping_iter(text)), searcher.count(text),
+             searcher.replace_all(text, FRUIT.split()[::-1])) for _ in range(10))] * 8)
+        self.assertEqual([wanted] * 80, answers)
+
+    def test_calls_run_at_once(self):
+        """Four are in the library together, also of one thread's searcher and its copies."""
+        searcher, counts, meet = AhoCorasick(["a"]), [], threading.Barrier(4, timeout=30)
+        with self.meeting("ac_count", lambda: meet.wait() < 0):
+            searchers = [searcher, searcher, searcher, copy.copy(searcher)]
+            self.at_once([lambda it=it: counts.append(it.count("aba")) for it in searchers])
+        self.assertEqual([2] * 4, counts)
+
+    def test_closing_while_others_search(self):
+        """It refuses calls from then on, and the running one has its answer before the memory is freed."""
+        searcher, counts, entered, go_on = AhoCorasick(["a"]), [], threading.Event(), threading.Event()
+        memory = weakref.ref(searcher._open)
+        with self.meeting("ac_count", lambda: entered.set() or not go_on.wait(30)):
+            thread = threading.Thread(target=lambda: counts.append(searcher.count("aba")))
+            thread.start()
+            entered.wait(30)
+            searcher.close()
+            self.assertRaisesRegex(ArgumentError, "closed", searcher.find, "a")
+            gc.collect()
+            self.assertIsNotNone(memory())
+            go_on.set()
+            thread.join()
+        gc.collect()
+        self.assertEqual(([2], None), (counts, memory()))
+
+    def test_closing_at_any_time(self):
+        """A call has its answer, or is refused."""
+        haystack, answers = b"xxab" * 50_000, []
+
+        def count(searcher):
+            try:
+                while True:
+                    answers.append(searcher.count(haystack))
+            except ArgumentError as error:
+                answers.append(str(error))
+
+        for delay in range(10):
+            searcher = AhoCorasick([b"ab", b"b"])
+            closing = lambda: time.sleep(delay / 1000) or searcher.close()
+            self.at_once([lambda: count(searcher)] * 3 + [closing])
+        self.assertEqual({50_000, "the searcher is closed"}, set(answers) | {50_000})
+
+    def test_forks(self):
+        """A child that is made while other threads search can search too."""
+        searcher, haystack, ended = AhoCorasick([b"ab", b"b"]), b"xxab" * 50_000, threading.Event()
+
+        def search():
+            while not ended.is_set():
+                searcher.count(haystack)
+
+        threads = [threading.Thread(target=search) for _ in range(2)]
+        for thread in threads:
+            thread.start()
+        with warnings.catch_warnings():
+            warnings.simplefilter("ignore")
+            found = all(self.holds_in_a_child(lambda: searcher.count(haystack) == 50_000 == copy.copy(searcher).count(haystack))
+                        for _ in range(20))
+        ended.set()
+        for thread in threads:
+            thread.join()
+        self.assertTrue(found)
+
+    @staticmethod
+    def holds_in_a_child(test):
+        """Whether the test holds in a child. One that hangs is ended by its alarm, which has no handler."""
+        child = os.fork()
+        if child == 0:
+            signal.alarm(30)
+            os._exit(0 if test() else 1)
+        return os.waitpid(child, 0)[1] == 0
+
+    def test_signals(self):
+        """A handler may search with the searcher of the code that it interrupts."""
+        folder = pathlib.Path(ahocorasick_rattle.__file__).parent
+        ran = subprocess.run([sys.executable, "-c", SIGNALS], cwd=folder, capture_output=True, text=True, timeout=60)
+        self.assertEqual(("{50000}\n", ""), (ran.stdout, ran.stderr))
 
 
 if __name__ == "__main__":

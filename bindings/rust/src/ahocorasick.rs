@@ -4,7 +4,7 @@ use crate::ffi::{self, Facts, Handle, Refusal};
 use crate::iter::{FindIter, FindOverlappingIter};
 use crate::search::{Anchored, Input, Match, MatchKind, StartKind};
 use std::fmt;
-use std::rc::Rc;
+use std::sync::Arc;
 
 /// Which engine a searcher uses. It changes no answer.
 #[non_exhaustive]
@@ -59,7 +59,7 @@ impl AhoCorasickBuilder {
             ends.push(bytes.len());
         }
         let handle = Handle::open(&self.options, &bytes, &ends).map_err(BuildError::of)?;
-        Ok(AhoCorasick { facts: handle.facts(), handle: Rc::new(handle) })
+        Ok(AhoCorasick { facts: handle.facts(), handle: Arc::new(handle) })
     }
 
     /// Sets which of several overlapping occurrences is the match.
@@ -118,20 +118,18 @@ impl AhoCorasickBuilder {
     }
 }
 
-/// A searcher for many patterns at once. A clone is cheap: both share one engine.
+/// A searcher for many patterns at once. A clone is cheap: both share one engine. Threads may share a searcher, and search
+/// with it at once:
 ///
-/// A searcher is not `Send`:
-///
-/// ```compile_fail,E0277
-/// let searcher = aho_corasick_rattle::AhoCorasick::new(["a"]).unwrap();
-/// std::thread::spawn(move || searcher.is_match("a"));
 /// ```
+/// use aho_corasick_rattle::AhoCorasick;
+/// use std::sync::LazyLock;
 ///
-/// and not `Sync`:
+/// static FRUIT: LazyLock<AhoCorasick> = LazyLock::new(|| AhoCorasick::new(["apple", "maple"]).unwrap());
 ///
-/// ```compile_fail,E0277
-/// let searcher = aho_corasick_rattle::AhoCorasick::new(["a"]).unwrap();
-/// std::thread::scope(|scope| { scope.spawn(|| searcher.is_match("a")); });
+/// let counting = std::thread::spawn(|| FRUIT.find_iter("maple, apple").count());
+/// assert!(FRUIT.is_match("an apple"));
+/// assert_eq!(counting.join().unwrap(), 2);
 /// ```
 ///
 /// An iterator borrows the searcher and the haystack:
@@ -144,7 +142,7 @@ impl AhoCorasickBuilder {
 /// ```
 #[derive(Clone)]
 pub struct AhoCorasick {
-    handle: Rc<Handle>,
+    handle: Arc<Handle>,
     facts: Facts,
 }
 

@@ -144,11 +144,18 @@ unsafe extern "C" {
     ) -> i32;
 }
 
-/// An open searcher. The pointer keeps it from being `Send` or `Sync`.
+/// An open searcher.
 #[derive(Debug)]
 pub(crate) struct Handle {
     at: *mut u8,
 }
+
+// SAFETY: the library's `Handle`, which this is, is proved to be `Send` (`crates/ac_c/src/handle.rt`).
+unsafe impl Send for Handle {}
+
+// SAFETY: what a `&Handle` gives is a reader for each call, and the library's `Reader` is proved to be `Send`, since a
+// searcher is `Sync` (`crates/ac_c/src/reader.rt`). The handle itself changes only in `drop`, which has it alone.
+unsafe impl Sync for Handle {}
 
 impl Handle {
     pub(crate) fn open(options: &Options, bytes: &[u8], ends: &[usize]) -> Result<Handle, Refusal> {

@@ -13,7 +13,6 @@
 //!
 //! What differs from that crate:
 //!
-//! - Searchers are neither `Send` nor `Sync`, since nothing is proved about threads. Each thread may build its own.
 //! - [`AhoCorasickBuilder::build`] returns an error where there is no memory for the searcher.
 //! - An iterator looks for up to 128 matches at once, so its first item may come after most of the haystack was read. For
 //!   one match use [`AhoCorasick::find`]. In an overlapping search, each batch of 128 matches reads as many bytes again as

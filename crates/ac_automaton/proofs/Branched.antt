@@ -1,15 +1,9 @@
 -- Once all its children have come a state is whole.
-use Rattle.std.proofs.Common.{◌≡◌, ◌≢◌, ℕ, ◌<◌, ◌≤◌, true, List, [], ◌∷◌, ◌++◌, length, length-append, inl, inr, refl, ap, sym, ◌∙◌, subst, arith, Some, None, nat_eq, slice_get, slice_range, Contains, ◌↔◌, rules}
-use Rattle.std.specs.List.{starts_with}
-use Rattle.std.specs.List.Sorted.{IsPermutation, IsStrictlyIncreasing}
-use Rattle.std.proofs.lemmas.Bool.{cases_lt}
-use Rattle.std.proofs.lemmas.List.{length-map}
+use Rattle.ac_util.proofs.Prelude.{◌≡◌, ◌≢◌, ℕ, ◌<◌, ◌≤◌, true, List, [], ◌∷◌, ◌++◌, length, length-append, inl, inr, refl, ap, sym, ◌∙◌, subst, arith, Some, None, nat_eq, slice_get, slice_range, Contains, ◌↔◌, rules, starts_with, IsPermutation, IsStrictlyIncreasing, cases_lt, length-map, common_steps}
+use Rattle.ac_automaton.specs.Prelude.{is_node, MatchKind, plain_byte, step, Yes, AreStates, byte_at, FIRST_INNER, grown_view, HasBranched, HasSorted, IsNext, IsOrder, key_at, Keyed, LinkIsDue, Links, nodes_of, QueuedState, State, Transition, transition_bytes}
 use Rattle.std.proofs.lemmas.List.Sorted.{Contains-permutation, IsPermutation-sym, length_permutation}
-use Rattle.std.proofs.lemmas.Grind.{common_steps}
-use Rattle.ac_automaton.specs.Util.{is_node, MatchKind, plain_byte, step, Yes}
 use Rattle.ac_util.proofs.Prefixes.{starts_with-front}
 use Rattle.ac_util.proofs.Lists.{AllPairs-from_IsOrdered, Contains-from_IsIn, IsIn, IsIn-from_Contains, IsIn-from_map, IsIn-map}
-use Rattle.ac_automaton.specs.Prelude.{AreStates, byte_at, FIRST_INNER, grown_view, HasBranched, HasSorted, IsNext, IsOrder, key_at, Keyed, LinkIsDue, Links, nodes_of, QueuedState, State, Transition, transition_bytes}
 use Rattle.ac_automaton.proofs.Branching.{IsBranching, Site, string, word-length}
 use Rattle.ac_automaton.proofs.Grown.{AreStates-more, IsGrown-later}
 use Rattle.ac_automaton.proofs.Leading.{sorted-ascends}

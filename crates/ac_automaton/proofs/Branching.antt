@@ -1,13 +1,7 @@
 -- How the children of a state are put after the queue, one run of patterns after another.
-use Rattle.std.proofs.Common.{◌≡◌, ◌≢◌, ℕ, suc, ◌+◌, ◌<◌, ◌≤◌, true, Bool, List, [], ◌∷◌, ◌++◌, length, inl, inr, refl, ap, sym, subst, arith, Option, Some, None, nat_eq, slice_get, rules}
-use Rattle.std.specs.List.{starts_with}
-use Rattle.std.proofs.lemmas.List.{append-nil, length_push, length-take-le}
-use Rattle.std.proofs.lemmas.Option.{slice_get_within}
-use Rattle.std.proofs.lemmas.Grind.{common_steps}
-use Rattle.ac_automaton.specs.Util.{MatchKind, plain_byte}
+use Rattle.ac_util.proofs.Prelude.{◌≡◌, ◌≢◌, ℕ, suc, ◌+◌, ◌<◌, ◌≤◌, true, Bool, List, [], ◌∷◌, ◌++◌, length, inl, inr, refl, ap, sym, subst, arith, Option, Some, None, nat_eq, slice_get, rules, starts_with, append-nil, length_push, length-take-le, slice_get_within, common_steps}
+use Rattle.ac_automaton.specs.Prelude.{MatchKind, plain_byte, AreStates, byte_at, EndsPatterns, grown_view, HasChild, IsGrown, IsNext, IsRangeOf, key_at, Keyed, nodes_of, QueuedState, Source, State, Transition, Waits, word, IsQueueReady}
 use Rattle.ac_util.proofs.Lists.{IsIn, IsOrdered}
-use Rattle.ac_automaton.specs.Prelude.{AreStates, byte_at, EndsPatterns, grown_view, HasChild, IsGrown, IsNext, IsRangeOf, key_at, Keyed, nodes_of, QueuedState, Source, State, Transition, Waits, word}
-use Rattle.ac_automaton.specs.Growths.{IsQueueReady}
 use Rattle.ac_automaton.proofs.Grown.{AreStates-more, IsGrown-later, nodes-inner, nodes-more}
 use Rattle.ac_automaton.proofs.Orders.{rank}
 use Rattle.ac_util.proofs.Prefixes.{starts_with-length}

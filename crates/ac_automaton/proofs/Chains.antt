@@ -1,11 +1,6 @@
 -- Chains of matches, each of which is one before it and a match more.
-use Rattle.std.proofs.Common.{◌≡◌, ℕ, take, ◌+◌, ◌-◌, ◌<◌, ◌≤◌, ◌⊎◌, inl, inr, List, [], ◌∷◌, ◌++◌, length, length-append, map, get_or, refl, ap, sym, ◌∙◌, subst, arith, Some, slice_get, slice_index_or}
-use Rattle.std.proofs.Math.Seq.{get_or-append_seam}
-use Rattle.std.proofs.lemmas.List.{append-nil, append_assoc, get_or_append_left, map-append, take_more}
-use Rattle.std.proofs.lemmas.Option.{get_or_from_slice_get, slice_get_read, slice_get_within, slice_get-get_or}
-use Rattle.ac_automaton.specs.declared.automaton.commits.ChainMatch.{ChainMatch}
-use Rattle.ac_automaton.specs.declared.automaton.commits.Link.{Link}
-use Rattle.ac_automaton.specs.Commits.{AreLinks, chain_at, chains_after, chains_of, GrowsBy, HasChains, IsFront, IsLink, linked_match, shifted}
+use Rattle.ac_util.proofs.Prelude.{◌≡◌, ℕ, take, ◌+◌, ◌-◌, ◌<◌, ◌≤◌, ◌⊎◌, inl, inr, List, [], ◌∷◌, ◌++◌, length, length-append, map, get_or, refl, ap, sym, ◌∙◌, subst, arith, Some, slice_get, slice_index_or, get_or-append_seam, append-nil, append_assoc, get_or_append_left, map-append, take_more, get_or_from_slice_get, slice_get_read, slice_get_within, slice_get-get_or}
+use Rattle.ac_automaton.specs.Prelude.{ChainMatch, Link, AreLinks, chain_at, chains_after, chains_of, GrowsBy, HasChains, IsFront, IsLink, linked_match, shifted}
 use Rattle.ac_automaton.proofs.Places.{get-added, get-added_cases, get-append}
 
 -- one link more at the end makes one chain more

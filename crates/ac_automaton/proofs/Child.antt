@@ -1,12 +1,6 @@
 -- The child of a run of patterns, which is put after the queue.
-use Rattle.std.proofs.Common.{◌≡◌, ◌≢◌, ℕ, suc, ◌+◌, ◌-◌, ◌<◌, ◌≤◌, List, [], ◌∷◌, ◌++◌, length, length-append, take, ◌⊎◌, inl, inr, ap, sym, ◌∙◌, subst, arith, Some, get_or, slice_get, rules}
-use Rattle.std.proofs.lemmas.Bool.{cases_lt}
-use Rattle.std.proofs.lemmas.List.{length-map, length-take-le, length_push}
-use Rattle.std.proofs.lemmas.Option.{slice_get-get_or, slice_get_within}
-use Rattle.std.proofs.Math.Seq.{take-append_seam}
-use Rattle.ac_automaton.specs.Util.{GREATEST, plain_byte}
-use Rattle.ac_automaton.specs.Prelude.{ANCHORED_START, FIRST_INNER, IsGrown, IsRangeOf, key_at, leading, fallback, nodes_of, QueuedState, Transition, Waits, word}
-use Rattle.ac_automaton.specs.Growths.{HasParent, IsNext}
+use Rattle.ac_util.proofs.Prelude.{◌≡◌, ◌≢◌, ℕ, suc, ◌+◌, ◌-◌, ◌<◌, ◌≤◌, List, [], ◌∷◌, ◌++◌, length, length-append, take, ◌⊎◌, inl, inr, ap, sym, ◌∙◌, subst, arith, Some, get_or, slice_get, rules, cases_lt, length-map, length-take-le, length_push, slice_get-get_or, slice_get_within, take-append_seam}
+use Rattle.ac_automaton.specs.Prelude.{GREATEST, plain_byte, ANCHORED_START, FIRST_INNER, IsGrown, IsRangeOf, key_at, leading, fallback, nodes_of, QueuedState, Transition, Waits, word, HasParent, IsNext}
 use Rattle.ac_automaton.proofs.Grown.{IsDeadNumber, IsInner, IsStartNumber, nodes-cases, nodes-more}
 use Rattle.ac_automaton.proofs.Leading.{leading-length}
 use Rattle.ac_automaton.proofs.Orders.{rank}

@@ -1,8 +1,6 @@
 -- The failure target of a child.
-use Rattle.std.proofs.Common.{◌≡◌, ◌≢◌, ℕ, ◌+◌, Bool, true, List, [], ◌∷◌, ◌++◌, length, sym, subst, arith, Some, None, slice_get, rules}
-use Rattle.std.proofs.lemmas.List.{length_push}
-use Rattle.ac_automaton.specs.Util.{equal_to, is_leftmost, MatchKind, No, step}
-use Rattle.ac_automaton.specs.Prelude.{byte_at, grown_view, HasChild, HasState, Keyed, fallback, nodes_of, QueuedState, State, Transition, word}
+use Rattle.ac_util.proofs.Prelude.{◌≡◌, ◌≢◌, ℕ, ◌+◌, Bool, true, List, [], ◌∷◌, ◌++◌, length, sym, subst, arith, Some, None, slice_get, rules, length_push}
+use Rattle.ac_automaton.specs.Prelude.{equal_to, is_leftmost, MatchKind, No, step, byte_at, grown_view, HasChild, HasState, Keyed, fallback, nodes_of, QueuedState, State, Transition, word}
 use Rattle.ac_automaton.proofs.Branching.{word-length}
 use Rattle.ac_automaton.proofs.Misses.{fallback-child, fallback-pattern, fallback-start}
 use Rattle.ac_automaton.proofs.Ranges.{equal_to-some, equal_to-none}

@@ -1,11 +1,7 @@
 -- The transitions to a child of a run of patterns, and that the branching goes on with it.
-use Rattle.std.proofs.Common.{◌≡◌, ◌≢◌, ℕ, suc, ◌+◌, ◌<◌, ◌≤◌, List, [], ◌∷◌, ◌++◌, length, inl, inr, refl, ap, sym, ◌∙◌, arith, Some, slice_get}
-use Rattle.std.proofs.lemmas.Bool.{cases_lt}
-use Rattle.std.proofs.lemmas.List.{append-nil, append_assoc, length-map, length_push}
-use Rattle.std.proofs.lemmas.Grind.{common_steps}
-use Rattle.ac_automaton.specs.Util.{GREATEST, plain_byte}
+use Rattle.ac_util.proofs.Prelude.{◌≡◌, ◌≢◌, ℕ, suc, ◌+◌, ◌<◌, ◌≤◌, List, [], ◌∷◌, ◌++◌, length, inl, inr, refl, ap, sym, ◌∙◌, arith, Some, slice_get, cases_lt, append-nil, append_assoc, length-map, length_push, common_steps}
+use Rattle.ac_automaton.specs.Prelude.{GREATEST, plain_byte, ANCHORED_START, FIRST_INNER, grown_view, leading, fallback, nodes_of, QueuedState, Transition, word}
 use Rattle.ac_util.proofs.Lists.{IsIn, IsIn-append_cases, IsIn-append_left, IsIn-append_right, IsOrdered, IsOrdered-append}
-use Rattle.ac_automaton.specs.Prelude.{ANCHORED_START, FIRST_INNER, grown_view, leading, fallback, nodes_of, QueuedState, Transition, word}
 use Rattle.ac_automaton.proofs.Grown.{AreStates-more, nodes-inner, nodes-more}
 use Rattle.ac_automaton.proofs.Leading.{leading-apart, leading-has, leading-plain, leading-small}
 use Rattle.ac_automaton.proofs.Orders.{rank}

@@ -1,22 +1,9 @@
 -- Making the commits of all children of a state.
-use Rattle.std.proofs.Common.{◌≡◌, ◌≢◌, true, ℕ, ◌+◌, ◌-◌, ◌<◌, List, [], ◌∷◌, ◌++◌, length, length-append, inl, inr, refl, ap, sym, ◌∙◌, subst, arith, Some, None, slice_get, slice_set, get_or, nat_eq}
-use Rattle.std.specs.List.{starts_with}
-use Rattle.std.proofs.lemmas.Bool.{cases_eq, cases_lt}
-use Rattle.std.proofs.lemmas.List.{get_or-set_other, get_or-set_same, length-set}
-use Rattle.std.proofs.lemmas.Option.{slice_get_within}
-use Rattle.ac_automaton.specs.Util.{is_node, MatchKind, No, Node, pattern_of, plain_byte, step, Yes}
-use Rattle.ac_util.specs.Prelude.{participants}
-use Rattle.ac_util.specs.Commits.{IsPickIn}
+use Rattle.ac_util.proofs.Prelude.{◌≡◌, ◌≢◌, true, ℕ, ◌+◌, ◌-◌, ◌<◌, List, [], ◌∷◌, ◌++◌, length, length-append, inl, inr, refl, ap, sym, ◌∙◌, subst, arith, Some, None, slice_get, slice_set, get_or, nat_eq, starts_with, cases_eq, cases_lt, get_or-set_other, get_or-set_same, length-set, slice_get_within}
+use Rattle.ac_automaton.specs.Prelude.{is_node, MatchKind, No, Node, pattern_of, plain_byte, step, Yes, participants, IsPickIn, ChainMatch, Commit, Transition, Making, HasChains, AreMade, HasAdded, HasCommit, HasIndex, HasLedOn, IsChild, IsDone, longer, Made, made_of, MayCommit, NeedsNone, NeedsOne, IsNumbered, Represents, State, transition_bytes, transitions_of, TrieView}
 use Rattle.ac_util.proofs.Advance.{pick-stays}
 use Rattle.ac_util.proofs.Lists.{Contains-from_IsIn, IsIn, IsIn-from_Contains, IsIn-from_map, IsIn-map}
 use Rattle.ac_util.proofs.NodeCount.{any_passes}
-use Rattle.ac_automaton.specs.declared.automaton.commits.ChainMatch.{ChainMatch}
-use Rattle.ac_automaton.specs.declared.automaton.commits.Commit.{Commit}
-use Rattle.ac_automaton.specs.declared.nfa.noncontiguous.state.Transition.{Transition}
-use Rattle.ac_automaton.specs.declared.nfa.noncontiguous.commits.Making.{Making}
-use Rattle.ac_automaton.specs.Commits.{HasChains}
-use Rattle.ac_automaton.specs.Committing.{AreMade, HasAdded, HasCommit, HasIndex, HasLedOn, IsChild, IsDone, longer, Made, made_of, MayCommit, NeedsNone, NeedsOne}
-use Rattle.ac_automaton.specs.Prelude.{IsNumbered, Represents, State, transition_bytes, transitions_of, TrieView}
 use Rattle.ac_automaton.proofs.Branched.{transition_target-is, transition_target-node}
 use Rattle.ac_automaton.proofs.Committing.{holds-none, number-node, same-number}
 use Rattle.ac_automaton.proofs.CommitSteps.{commit-kept}

@@ -1,11 +1,8 @@
 -- Looking up the commit of a state among those that are in ascending order of their states.
-use Rattle.std.proofs.Common.{◌≡◌, ◌≢◌, ◌⊎◌, ℕ, ◌<◌, ◌≤◌, List, inl, inr, ap, sym, ◌∙◌, subst, arith, get_or, Contains, Ok, Err}
+use Rattle.ac_util.proofs.Prelude.{◌≡◌, ◌≢◌, ◌⊎◌, ℕ, ◌<◌, ◌≤◌, List, inl, inr, ap, sym, ◌∙◌, subst, arith, get_or, Contains, Ok, Err, IsBinarySearchResult, IsNonDecreasingBy, nat_cmp, ordering_index, cases_lt}
+use Rattle.ac_automaton.specs.Prelude.{Commit}
 use Rattle.std.specs.Cmp.{nat_cmp_is}
-use Rattle.std.specs.List.Sorted.{IsBinarySearchResult, IsNonDecreasingBy}
-use Rattle.std.specs.Ordering.{nat_cmp, ordering_index}
 use Rattle.std.specs.declared.cmp.Ordering.TheVariants.{Less, Equal, Greater}
-use Rattle.std.proofs.lemmas.Bool.{cases_lt}
-use Rattle.ac_automaton.specs.declared.automaton.commits.Commit.{Commit}
 
 -- how two numbers compare
 abbrev Compares : ℕ → ℕ → Type 0

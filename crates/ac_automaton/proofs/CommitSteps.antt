@@ -1,22 +1,11 @@
 -- Making the commit of a child from that of its parent.
-use Rattle.std.proofs.Common.{◌≡◌, ◌&&◌, ℕ, suc, zero, ◌+◌, ◌-◌, ◌<◌, ◌≤◌, List, [], ◌∷◌, ◌++◌, length, length-append, length-drop, map, drop, refl, ap, sym, ◌∙◌, subst, arith, All, Some, None, slice_get, get_or, cond, Bool}
-use Rattle.std.proofs.lemmas.List.{append-nil, map-append}
-use Rattle.std.proofs.lemmas.List.Elements.{All-append, All-map}
-use Rattle.ac_automaton.specs.Util.{begins_with_pattern, GREATEST, is_leftmost, No, Node, Occurrence, pattern_of, plain_byte, reached, step}
-use Rattle.ac_util.specs.Prelude.{outward}
-use Rattle.ac_util.specs.Commits.{IsPickIn, Anything, Next, NodeCommits}
-use Rattle.ac_util.proofs.Commits.{commits-where}
+use Rattle.ac_util.proofs.Prelude.{◌≡◌, ◌&&◌, ℕ, suc, zero, ◌+◌, ◌-◌, ◌<◌, ◌≤◌, List, [], ◌∷◌, ◌++◌, length, length-append, length-drop, map, drop, refl, ap, sym, ◌∙◌, subst, arith, All, Some, None, slice_get, get_or, cond, Bool, append-nil, map-append, All-append, All-map}
+use Rattle.ac_automaton.specs.Prelude.{begins_with_pattern, GREATEST, is_leftmost, No, Node, Occurrence, pattern_of, plain_byte, reached, step, outward, IsPickIn, Anything, NodeCommits, ChainMatch, Commit, Transition, chain_at, GrowsBy, HasChains, IsChainMatch, shifted, Making, AreMade, ending_by, HasCommit, HasString, IsViewOf, LeadsToChild, lists_of, ListsView, Made, made_of, MayCommit, NeedsOne, HasState, IsNumbered, START, State, TrieView}
+use Rattle.ac_util.proofs.Commits.{commits-where, Next}
 use Rattle.ac_util.proofs.NodeCommits.{node-dead, node-on, node-shorter}
 use Rattle.ac_util.proofs.NodePicks.{dead-has_pick}
 use Rattle.ac_util.proofs.Picks.{same_occurrence}
 use Rattle.ac_util.proofs.Reached.{reached-cons, reached-nil}
-use Rattle.ac_automaton.specs.declared.automaton.commits.ChainMatch.{ChainMatch}
-use Rattle.ac_automaton.specs.declared.automaton.commits.Commit.{Commit}
-use Rattle.ac_automaton.specs.declared.nfa.noncontiguous.state.Transition.{Transition}
-use Rattle.ac_automaton.specs.Commits.{chain_at, GrowsBy, HasChains, IsChainMatch, shifted}
-use Rattle.ac_automaton.specs.declared.nfa.noncontiguous.commits.Making.{Making}
-use Rattle.ac_automaton.specs.Committing.{AreMade, ending_by, HasCommit, HasString, IsViewOf, LeadsToChild, lists_of, ListsView, Made, made_of, MayCommit, NeedsOne}
-use Rattle.ac_automaton.specs.Prelude.{HasState, IsNumbered, START, State, TrieView}
 use Rattle.ac_automaton.proofs.Chains.{chain-same, chains-longer, has-more}
 use Rattle.ac_automaton.proofs.Committing.{holds-none, number-node, shorter-before, string-few}
 use Rattle.ac_automaton.proofs.TrieStates.{dead-number, number-state}

@@ -1,21 +1,12 @@
 -- Making the commits of a noncontiguous NFA: what is held of a state.
-use Rattle.std.proofs.Common.{◌≡◌, ◌≢◌, true, ℕ, suc, zero, ◌-◌, ◌<◌, ◌≤◌, List, [], ◌∷◌, ◌++◌, length, length-append, map, drop, inl, inr, refl, ap, sym, ◌∙◌, subst, arith, All, Some, None, get_or}
-use Rattle.std.proofs.lemmas.Bool.{cases_lt}
-use Rattle.std.proofs.lemmas.List.{get_or_read}
-use Rattle.std.proofs.lemmas.Option.{get_or_from_slice_get, slice_get_within}
-use Rattle.ac_util.specs.Commits.{standing_at, IsPickIn, Anything, NodeCommits}
-use Rattle.ac_automaton.specs.Util.{GREATEST, is_node, No}
+use Rattle.ac_util.proofs.Prelude.{◌≡◌, ◌≢◌, true, ℕ, suc, zero, ◌-◌, ◌<◌, ◌≤◌, List, [], ◌∷◌, ◌++◌, length, length-append, map, drop, inl, inr, refl, ap, sym, ◌∙◌, subst, arith, All, Some, None, get_or, cases_lt, get_or_read, get_or_from_slice_get, slice_get_within}
+use Rattle.ac_automaton.specs.Prelude.{standing_at, IsPickIn, Anything, NodeCommits, GREATEST, is_node, No, ChainMatch, Commit, IsChainMatch, AreMade, ending_by, HasCommit, IsCommitAt, IsDone, Made, MayCommit, NeedsOne, all_matches, FIRST_INNER, IsNumbered, IsNumberOf, START, State, TrieView}
 use Rattle.ac_util.proofs.NodeCommits.{node-ends}
 use Rattle.ac_util.proofs.NodeCount.{inner_nodes-has, inner_nodes-only}
 use Rattle.ac_util.proofs.NodePicks.{match-picked}
 use Rattle.ac_util.proofs.Participants.{is_node-front}
 use Rattle.ac_util.proofs.Standing.{Prefixes-length}
-use Rattle.ac_automaton.specs.declared.automaton.commits.ChainMatch.{ChainMatch}
-use Rattle.ac_automaton.specs.declared.automaton.commits.Commit.{Commit}
-use Rattle.ac_automaton.specs.Commits.{IsChainMatch}
-use Rattle.ac_automaton.specs.Committing.{AreMade, ending_by, HasCommit, IsCommitAt, IsDone, Made, MayCommit, NeedsOne}
 use Rattle.ac_automaton.proofs.TrieStates.{number-state}
-use Rattle.ac_automaton.specs.Prelude.{all_matches, FIRST_INNER, IsNumbered, IsNumberOf, START, State, TrieView}
 
 -- a string with bytes is one without its last byte, and that
 pub record HasLast (u : List ℕ) : Type 0 where

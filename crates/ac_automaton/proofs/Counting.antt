@@ -1,5 +1,5 @@
 -- The pigeonhole principle: distinct elements of one list that all stand in another are no more than that has.
-use Rattle.std.proofs.Common.{◌≡◌, ◌≢◌, suc, ◌≤◌, List, [], ◌∷◌, length, inl, inr, refl, sym, ◌∙◌, subst, arith, AllPairs}
+use Rattle.ac_util.proofs.Prelude.{◌≡◌, ◌≢◌, suc, ◌≤◌, List, [], ◌∷◌, length, inl, inr, refl, sym, ◌∙◌, subst, arith, AllPairs}
 use Rattle.ac_util.proofs.Lists.{IsIn, IsOrdered, Contains-from_IsIn}
 
 -- pairs of elements are ordered, as seen from each element on

@@ -1,17 +1,11 @@
 -- Which matches are due where an automaton stands that lists: those in front of its state's list that count.
-use Rattle.std.proofs.Common.{◌≡◌, ℕ, ◌-◌, ◌<◌, Bool, true, false, cond, List, [], ◌∷◌, ◌++◌, length, inl, inr, refl, ap, sym, subst, ◌∙◌, arith, Some, None, All, rules}
-use Rattle.std.specs.List.{take_while}
-use Rattle.std.proofs.lemmas.Bool.{eq-eqb, ne_eqb}
-use Rattle.std.proofs.lemmas.List.{append_assoc, append-nil, length-map}
+use Rattle.ac_util.proofs.Prelude.{◌≡◌, ℕ, ◌-◌, ◌<◌, Bool, true, false, cond, List, [], ◌∷◌, ◌++◌, length, inl, inr, refl, ap, sym, subst, ◌∙◌, arith, Some, None, All, rules, take_while, eq-eqb, ne_eqb, append_assoc, append-nil, length-map, common_steps}
+use Rattle.ac_automaton.specs.Prelude.{Anchored, Built, No, Node, pattern_of, Yes, FitsIn, is_due, Lists, matches_of, plain_of}
 use Rattle.std.proofs.lemmas.List.Sums.{take_while-cons}
-use Rattle.std.proofs.lemmas.Grind.{common_steps}
-use Rattle.ac_util.specs.declared.search.Anchored.{Anchored}
-use Rattle.ac_automaton.specs.Util.{Built, No, Node, pattern_of, Yes}
 use Rattle.ac_util.proofs.Advance.{append_nil_left}
 use Rattle.ac_util.proofs.Found.{matches-fits, matches-shorter}
 use Rattle.ac_util.proofs.Lists.{All-from_IsIn, IsIn, IsIn-append_left}
 use Rattle.ac_util.proofs.Participants.{IsIn-from_equal_to}
-use Rattle.ac_automaton.specs.Prelude.{FitsIn, is_due, Lists, matches_of, plain_of}
 use Rattle.ac_automaton.proofs.Heads.{plain_length}
 
 -- of a list in two parts those in front that pass are the first part, where all of it pass and none of the other

@@ -1,10 +1,7 @@
 -- A replacement by texts, match by match: what was written, and what stands from there on with the matches that are
 -- left exchanged, is the whole.
-use Rattle.std.proofs.Common.{◌≡◌, ◌<◌, [], ◌∷◌, ◌++◌, ℕ, List, Option, None, Result, Ok, Err, IsErrAnd, arith, drop, get_or, length, slice_range}
-use Rattle.std.specs.Borrow.{Bor}
-use Rattle.std.proofs.lemmas.Grind.{common_steps}
-use Rattle.ac_automaton.specs.Util.{AnswersWhole, bytes_of, MatchError, Occurrence, replaced_from, ReplaceError}
-use Rattle.ac_util.specs.declared.error.ReplaceError.TheVariants.{Memory}
+use Rattle.ac_util.proofs.Prelude.{◌≡◌, ◌<◌, [], ◌∷◌, ◌++◌, ℕ, List, Option, None, Result, Ok, Err, IsErrAnd, arith, drop, get_or, length, slice_range, Bor, common_steps}
+use Rattle.ac_automaton.specs.Prelude.{AnswersWhole, bytes_of, MatchError, Occurrence, replaced_from, ReplaceError, Memory}
 
 -- and so it is once the gap before the next match and the text of its pattern were written
 pub turned : (haystack : List ℕ) (texts : List (Bor (List ℕ))) (place start number end : ℕ) (m : Occurrence)

@@ -1,11 +1,8 @@
 -- A replacement by a closure, match by match: from what was done so far, the steps that are left lead on to those of
 -- the whole.
-use Rattle.std.proofs.Common.{◌≡◌, ◌∙◌, ℕ, Bool, true, false, List, [], ◌∷◌, ◌++◌, ap, arith, drop, length, inl, inr, refl, subst, sym, Option, None, Some, Result, Ok, Err, IsErrAnd, MatchResult, slice_range}
-use Rattle.std.specs.Borrow.{Bor, MutBor}
+use Rattle.ac_util.proofs.Prelude.{◌≡◌, ◌∙◌, ℕ, Bool, true, false, List, [], ◌∷◌, ◌++◌, ap, arith, drop, length, inl, inr, refl, subst, sym, Option, None, Some, Result, Ok, Err, IsErrAnd, MatchResult, slice_range, Bor, MutBor, common_steps}
+use Rattle.ac_automaton.specs.Prelude.{AppendsAll, InputView, answer_of, whole_input, Built, Calls, find_refusal, MakesSteps, MatchError, Occurrence, replace_refusal, ReplaceError, ReplacementSteps, StepsLead, Turn, Memory}
 use Rattle.std.specs.Fn.{Mut}
-use Rattle.std.proofs.lemmas.Grind.{common_steps}
-use Rattle.ac_automaton.specs.Util.{AppendsAll, InputView, answer_of, whole_input, Built, Calls, find_refusal, MakesSteps, MatchError, Occurrence, replace_refusal, ReplaceError, ReplacementSteps, StepsLead, Turn}
-use Rattle.ac_util.specs.declared.error.ReplaceError.TheVariants.{Memory}
 
 -- a slice up to the end is what follows a place
 pub slice_to_end : (bytes : List ℕ) (place : ℕ) → slice_range bytes place (length bytes) ≡ drop place bytes

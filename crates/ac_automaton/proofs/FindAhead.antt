@@ -1,15 +1,9 @@
 -- A find that reads on from match to match: what is picked where it has come to.
-use Rattle.std.proofs.Common.{◌≡◌, ◌≢◌, ◌⊎◌, ℕ, zero, suc, ◌+◌, ◌-◌, ◌<◌, ◌≤◌, Bool, true, false, IsTrue, ◌↔◌, List, [], length, refl, ap, sym, ◌∙◌, inl, inr, arith, Option, Some, None, option_map, slice_get, IfSome, max, rules, subst}
+use Rattle.ac_util.proofs.Prelude.{◌≡◌, ◌≢◌, ◌⊎◌, ℕ, zero, suc, ◌+◌, ◌-◌, ◌<◌, ◌≤◌, Bool, true, false, IsTrue, ◌↔◌, List, [], length, refl, ap, sym, ◌∙◌, inl, inr, arith, Option, Some, None, option_map, slice_get, IfSome, max, rules, subst, common_steps}
+use Rattle.ac_automaton.specs.Prelude.{Anchored, Built, is_leftmost, MatchKind, Node, Occurrence, order_of, pick, Span, Standard, found_at, in_memory, IsDecided, matches_of, NoMatchBetween, place_of, Scan, first_given, Leaves, Given, Position}
 use Rattle.std.specs.Option.{option_or}
-use Rattle.std.proofs.lemmas.Grind.{common_steps}
-use Rattle.ac_util.specs.declared.search.Anchored.{Anchored}
-use Rattle.ac_automaton.specs.Util.{Built, is_leftmost, MatchKind, Node, Occurrence, order_of, pick, Span, Standard}
 use Rattle.ac_util.proofs.SearchLoop.{SearchGoesOn}
-use Rattle.ac_automaton.specs.Prelude.{found_at, in_memory, IsDecided, matches_of, NoMatchBetween, place_of, Scan}
 use Rattle.ac_automaton.proofs.FindLoop.{dead-stays, found-end, goes_on-by, goes_on-none, node_at, order, picked-final, picked-newly, picked-still, q, up_to}
-use Rattle.ac_automaton.specs.Cores.{first_given, Leaves}
-use Rattle.ac_automaton.specs.declared.automaton.onward.Given.{Given}
-use Rattle.ac_automaton.specs.declared.automaton.onward.Position.{Position}
 
 module _ (s : Scan) (stops : Bool) (bytes : List ℕ) (span : Span) where
   abbrev node : ℕ → Node

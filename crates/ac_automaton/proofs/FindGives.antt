@@ -1,26 +1,12 @@
 -- A find where a match may be picked anywhere in its span: what it gives is the pick, once it has read as far as it reads or called
 -- its prefilter.
-use Rattle.std.proofs.Common.{◌≡◌, ◌⊎◌, ℕ, ◌+◌, ◌<◌, ◌≤◌, ◌==◌, true, false, nat_lt, List, [], ◌∷◌, length, inl, inr, refl, ap, sym, ◌∙◌, subst, arith, Option, None, Some, IfSome, rules}
-use Rattle.std.specs.List.{list_any}
-use Rattle.std.proofs.lemmas.Bool.{cases_Bool, false≢true, ltb-true}
-use Rattle.std.proofs.lemmas.Grind.{common_steps}
-use Rattle.ac_util.specs.Commits.{IsPickIn}
-use Rattle.ac_automaton.specs.Util.{Counts, is_empty, is_leftmost, IsNeedleMatch, IsPick, MatchKind, may_skip, No, Node, Occurrence, Occurs, one_more_call, participates, pick, plain_patterns, Search, search_over, shortest_len, Span, Yes}
-use Rattle.ac_util.specs.Prefilters.Skip.{Needle}
+use Rattle.ac_util.proofs.Prelude.{◌≡◌, ◌⊎◌, ℕ, ◌+◌, ◌<◌, ◌≤◌, ◌==◌, true, false, nat_lt, List, [], ◌∷◌, length, inl, inr, refl, ap, sym, ◌∙◌, subst, arith, Option, None, Some, IfSome, rules, list_any, cases_Bool, false≢true, ltb-true, common_steps}
+use Rattle.ac_automaton.specs.Prelude.{IsPickIn, Counts, is_empty, is_leftmost, IsNeedleMatch, IsPick, MatchKind, may_skip, No, Node, Occurrence, Occurs, one_more_call, participates, pick, plain_patterns, Search, search_over, shortest_len, Span, Yes, Needle, Anchored, Lists, is_free, AutomatonView, Cursor, HasRead, HasReadMatch, HasSearched, in_memory, most_looks, node, plain_of, ReadsTo, Scan, ScansTo, ScanText, search_through, Skips, Work, begun_by, IsSearchBy, PicksBy, scan_by, Spot, IsAtStart, Point, ReadsOn, Core, Position, SkipBudget}
 use Rattle.ac_util.proofs.AtStart.{pick-rest}
 use Rattle.ac_util.proofs.Marks.{is_empty-length}
 use Rattle.ac_util.proofs.Picks.{pick-IsPick}
 use Rattle.ac_util.proofs.Shortest.{shortest-empty}
 use Rattle.ac_util.proofs.Walks.{pick-Occurs}
-use Rattle.ac_util.specs.declared.search.Anchored.{Anchored}
-use Rattle.ac_automaton.specs.Automata.{Lists}
-use Rattle.ac_automaton.specs.Finds.{is_free}
-use Rattle.ac_automaton.specs.Prelude.{AutomatonView, Cursor, HasRead, HasReadMatch, HasSearched, in_memory, most_looks, node, plain_of, ReadsTo, Scan, ScansTo, ScanText, search_through, Skips, Work}
-use Rattle.ac_automaton.specs.Cores.{begun_by, IsSearchBy, PicksBy, scan_by, Spot}
-use Rattle.ac_automaton.specs.Reads.{IsAtStart, Point, ReadsOn}
-use Rattle.ac_automaton.specs.declared.automaton.onward.Core.{Core}
-use Rattle.ac_automaton.specs.declared.automaton.onward.Position.{Position}
-use Rattle.ac_automaton.specs.declared.automaton.skip.SkipBudget.{SkipBudget}
 use Rattle.ac_automaton.proofs.FindAhead.{found-nothing}
 use Rattle.ac_automaton.proofs.FindLoop.{order, up_to, picking_by}
 use Rattle.ac_automaton.proofs.OnwardNeedle.{none-in, one-takes_part}

@@ -1,15 +1,10 @@
 -- A find that reads byte by byte: where the automaton stands, and what is picked so far.
-use Rattle.std.proofs.Common.{◌≡◌, ℕ, ◌+◌, ◌-◌, ◌<◌, ◌≤◌, Bool, true, false, List, [], ◌∷◌, length, inl, inr, refl, ap, sym, ◌∙◌, subst, arith, Option, Some, None, option_map, slice_get, IfSome, rules}
-use Rattle.std.proofs.lemmas.Grind.{common_steps}
-use Rattle.ac_automaton.specs.Util.{Built, is_leftmost, MatchKind, Node, Occurrence, order_of, pick, Search, Span, Standard}
-use Rattle.ac_util.specs.declared.search.Anchored.{Anchored}
+use Rattle.ac_util.proofs.Prelude.{◌≡◌, ℕ, ◌+◌, ◌-◌, ◌<◌, ◌≤◌, Bool, true, false, List, [], ◌∷◌, length, inl, inr, refl, ap, sym, ◌∙◌, subst, arith, Option, Some, None, option_map, slice_get, IfSome, rules, common_steps}
+use Rattle.ac_automaton.specs.Prelude.{Built, is_leftmost, MatchKind, Node, Occurrence, order_of, pick, Search, Span, Standard, Anchored, picking_of, found_at, HasSearched, in_memory, IsDecided, matches_of, node, Picking, place_of, ReadsTo, Scan, ScansTo, search_through, HasReadMatch, Work, StopsAtDead}
 use Rattle.ac_util.proofs.Beginning.{pick-within}
 use Rattle.ac_util.proofs.Walks.{pick-in_span}
 use Rattle.ac_util.proofs.OneLonger.{pick-empty_none, pick-empty_some, none-past_end}
 use Rattle.ac_util.proofs.SearchLoop.{SearchGoesOn, pick-goes_on, pick-found, pick-stays_dead}
-use Rattle.ac_automaton.specs.Finds.{picking_of}
-use Rattle.ac_automaton.specs.Prelude.{found_at, HasSearched, in_memory, IsDecided, matches_of, node, Picking, place_of, ReadsTo, Scan, ScansTo, search_through, HasReadMatch, Work}
-use Rattle.ac_automaton.specs.Scans.{StopsAtDead}
 use Rattle.ac_automaton.proofs.ReadOn.{read-nothing, read-scanned}
 
 -- how a scan's finds are made that stop at the first match, or not

@@ -1,18 +1,11 @@
 -- A find on its way: where its scanner has come to, and what it picks so far.
-use Rattle.std.proofs.Common.{◌≡◌, ◌≤◌, ℕ, Bool, true, false, IsTrue, ◌↔◌, List, [], length, Some, refl, subst, sym, ◌∙◌, arith, Option, IfSome, rules}
+use Rattle.ac_util.proofs.Prelude.{◌≡◌, ◌≤◌, ℕ, Bool, true, false, IsTrue, ◌↔◌, List, [], length, Some, refl, subst, sym, ◌∙◌, arith, Option, IfSome, rules, common_steps, ◌⊎◌, None, ◌≢◌}
+use Rattle.ac_automaton.specs.Prelude.{Anchored, Counts, is_leftmost, Node, Occurrence, order_of, pick, Span, Standard, Taped, usize_max, AutomatonView, Cursor, finding_of, HasSearched, FindsIn, FitsIn, found_at, in_memory, IsAlive, IsAt, MayAdvance, MaySearch, node, PassesNoMatch, Scan, scan_of, ScannerView, ScansTo, ScanText, search_through, work_of, Advances, at, Point, tape_with, Work, WorkedTape, FindsAt, StandsIn}
 use Rattle.std.specs.Option.{option_or}
-use Rattle.std.proofs.lemmas.Grind.{common_steps}
 use Rattle.ac_util.proofs.SearchLoop.{SearchGoesOn}
-use Rattle.ac_util.specs.declared.search.Anchored.{Anchored}
-use Rattle.ac_automaton.specs.Util.{Counts, is_leftmost, Node, Occurrence, order_of, pick, Span, Standard, Taped, usize_max}
-use Rattle.ac_automaton.specs.Prelude.{AutomatonView, Cursor, finding_of, HasSearched, FindsIn, FitsIn, found_at, in_memory, IsAlive, IsAt, MayAdvance, MaySearch, node, PassesNoMatch, Scan, scan_of, ScannerView, ScansTo, ScanText, search_through, work_of}
-use Rattle.ac_automaton.specs.Reads.{Advances, at, Point}
-use Rattle.ac_automaton.specs.Scans.{tape_with, Work, WorkedTape}
-use Rattle.ac_automaton.specs.Finds.{FindsAt, StandsIn}
 use Rattle.ac_automaton.proofs.FindAhead.{IsUnanswered, answer-there, decided-there, ends-or, ends-there, picked-or, unanswered-by}
 use Rattle.ac_automaton.proofs.FindLoop.{goes_on-by, picked-start, picking_by, searched}
 use Rattle.ac_automaton.proofs.ReadOn.{at-start, node-fits, scans-nothing, scans-on}
-use Rattle.std.specs.Prelude.{◌⊎◌, None, ◌≢◌}
 
 module _ (v : ScannerView) (bytes : List ℕ) (here : Cursor) (is_at : IsAt v.scan (in_memory bytes v.span) here.state here.at) where
   -- the node where it stands fits into what was read

@@ -1,19 +1,7 @@
 -- A find where a match may be picked anywhere in its span, once it has read as far as it reads: what it gives is the pick.
-use Rattle.std.proofs.Common.{◌≡◌, ◌⊎◌, ℕ, ◌+◌, ◌<◌, ◌≤◌, Bool, true, false, List, [], ◌∷◌, length, inl, inr, refl, ap, sym, ◌∙◌, subst, arith, Option, None, Some, IfSome, option_map, slice_get, slice_index}
-use Rattle.std.specs.List.{list_any}
-use Rattle.std.proofs.lemmas.Bool.{cases_Bool, cases_lt, false≢true}
-use Rattle.ac_util.specs.Commits.{IsSearchFor, StandsAfter}
-use Rattle.ac_automaton.specs.Util.{is_empty, is_leftmost, MatchKind, No, Node, Occurrence, order_of, pick, Search, Span, Standard}
+use Rattle.ac_util.proofs.Prelude.{◌≡◌, ◌⊎◌, ℕ, ◌+◌, ◌<◌, ◌≤◌, Bool, true, false, List, [], ◌∷◌, length, inl, inr, refl, ap, sym, ◌∙◌, subst, arith, Option, None, Some, IfSome, option_map, slice_get, slice_index, list_any, cases_Bool, cases_lt, false≢true, ◌≢◌}
+use Rattle.ac_automaton.specs.Prelude.{IsSearchFor, StandsAfter, is_empty, is_leftmost, MatchKind, No, Node, Occurrence, order_of, pick, Search, Span, Standard, Lists, AutomatonView, found_at, HasSearched, in_memory, IsAlive, matches_of, node, place_of, plain_of, Scan, ScanText, search_through, Work, Leaves, GivesAt, GivesHere, IsSearchBy, scan_by, Comes, HasReadOn, in_hand, Point, read_to, ReadsOn, StopsAtDead, Core, Given, Position}
 use Rattle.ac_util.proofs.SearchLoop.{SearchGoesOn}
-use Rattle.ac_automaton.specs.Automata.{Lists}
-use Rattle.std.specs.Prelude.{◌≢◌}
-use Rattle.ac_automaton.specs.Prelude.{AutomatonView, found_at, HasSearched, in_memory, IsAlive, matches_of, node, place_of, plain_of, Scan, ScanText, search_through, Work}
-use Rattle.ac_automaton.specs.Cores.{Leaves, GivesAt, GivesHere, IsSearchBy, scan_by}
-use Rattle.ac_automaton.specs.Reads.{Comes, HasReadOn, in_hand, Point, read_to, ReadsOn}
-use Rattle.ac_automaton.specs.Scans.{StopsAtDead}
-use Rattle.ac_automaton.specs.declared.automaton.onward.Core.{Core}
-use Rattle.ac_automaton.specs.declared.automaton.onward.Given.{Given}
-use Rattle.ac_automaton.specs.declared.automaton.onward.Position.{Position}
 use Rattle.ac_automaton.proofs.FindAhead.{answer-there, found-first, decided-there, ends-there, found-nothing, picked-ahead, picked-there as picked-at}
 use Rattle.ac_automaton.proofs.FindLoop.{goes_on-by, goes_on-none, order, picked-start, picked-still, searched, up_to, picking_by}
 use Rattle.ac_automaton.proofs.OnwardGives.{gives-first, gives-past}

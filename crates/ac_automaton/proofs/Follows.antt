@@ -1,12 +1,8 @@
 -- A walk from state to state along the failure targets: it keeps where the byte leads at last, and counts its
 -- looks.
-use Rattle.std.proofs.Common.{◌≡◌, ◌≢◌, ℕ, ◌+◌, ◌<◌, ◌≤◌, List, [], get_or, refl, ap, sym, subst, ◌∙◌, arith, Some, None, Contains, slice_get, rules}
-use Rattle.std.proofs.lemmas.List.{get_or_read}
-use Rattle.std.proofs.lemmas.Grind.{common_steps}
-use Rattle.ac_util.specs.declared.search.Anchored.{Anchored}
-use Rattle.ac_automaton.specs.Util.{Counts, looks, more_looks, No, Node, plain_byte, step, Yes}
+use Rattle.ac_util.proofs.Prelude.{◌≡◌, ◌≢◌, ℕ, ◌+◌, ◌<◌, ◌≤◌, List, [], get_or, refl, ap, sym, subst, ◌∙◌, arith, Some, None, Contains, slice_get, rules, get_or_read, common_steps}
+use Rattle.ac_automaton.specs.Prelude.{Anchored, Counts, looks, more_looks, No, Node, plain_byte, step, Yes, ANCHORED_START, DEAD, FIRST_INNER, HasState, TrieView, transition_target, Represents, IsRootEntry, START, State, Transition, transition_bytes, transitions_of}
 use Rattle.ac_util.proofs.Lists.{Contains-from_IsIn, IsIn-map}
-use Rattle.ac_automaton.specs.Prelude.{ANCHORED_START, DEAD, FIRST_INNER, HasState, TrieView, transition_target, Represents, IsRootEntry, START, State, Transition, transition_bytes, transitions_of}
 use Rattle.ac_automaton.proofs.Places.{IsIn-place, get-same}
 use Rattle.ac_automaton.proofs.Steps.{step-transition_target, step-on, looks-transition_target, looks-short, looks-on}
 

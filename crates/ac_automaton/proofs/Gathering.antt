@@ -1,9 +1,6 @@
 -- Bytes that are gathered on their way to a writer: one piece and then another, and where a write fails.
-use Rattle.std.proofs.Common.{◌≡◌, ◌∙◌, ℕ, List, [], ◌++◌, length-append, append-nil, refl, subst, arith, Option, Some, None, Result, Ok, Err, MatchResult, rules}
-use Rattle.std.proofs.Math.Seq.{take-append-add}
-use Rattle.std.proofs.lemmas.Grind.{common_steps}
-use Rattle.ac_automaton.specs.Util.{error_of, Replacing, StreamError, WriteError, WritesAll, WritesUntilFailure, Writing}
-use Rattle.ac_automaton.specs.Prelude.{Gathers, Passing, PassesPiece}
+use Rattle.ac_util.proofs.Prelude.{◌≡◌, ◌∙◌, ℕ, List, [], ◌++◌, length-append, append-nil, refl, subst, arith, Option, Some, None, Result, Ok, Err, MatchResult, rules, take-append-add, common_steps}
+use Rattle.ac_automaton.specs.Prelude.{error_of, Replacing, StreamError, WriteError, WritesAll, WritesUntilFailure, Writing, Gathers, Passing, PassesPiece}
 use Rattle.ac_util.proofs.Devices.{writes-join}
 
 -- some bytes were written, and then a beginning of more

@@ -1,13 +1,7 @@
 -- What stays as a trie grows.
-use Rattle.std.proofs.Common.{◌≡◌, ℕ, zero, suc, ◌+◌, ◌<◌, ◌≤◌, ◌≢◌, List, [], ◌∷◌, ◌++◌, length, map, ◌⊎◌, length-append, inl, inr, ap, sym, ◌∙◌, subst, arith, Some, None, get_or, slice_get, Contains, ◌↔◌, rules}
-use Rattle.std.specs.List.Sorted.{IsStrictlyIncreasing}
-use Rattle.std.proofs.lemmas.Bool.{cases_lt}
-use Rattle.std.proofs.lemmas.List.{get_or_append_left, get_or_push, length-take-le, length_push}
-use Rattle.std.proofs.lemmas.Option.{slice_get-map, slice_get-get_or, slice_get_within}
-use Rattle.std.proofs.lemmas.Grind.{common_steps}
-use Rattle.ac_automaton.specs.Util.{depth, MatchKind, Node}
+use Rattle.ac_util.proofs.Prelude.{◌≡◌, ℕ, zero, suc, ◌+◌, ◌<◌, ◌≤◌, ◌≢◌, List, [], ◌∷◌, ◌++◌, length, map, ◌⊎◌, length-append, inl, inr, ap, sym, ◌∙◌, subst, arith, Some, None, get_or, slice_get, Contains, ◌↔◌, rules, IsStrictlyIncreasing, cases_lt, get_or_append_left, get_or_push, length-take-le, length_push, slice_get-map, slice_get-get_or, slice_get_within, common_steps}
+use Rattle.ac_automaton.specs.Prelude.{depth, MatchKind, Node, AreStates, FIRST_INNER, IsGrown, key_at, Keyed, TrieView, nodes_of, transition_target, QueuedState, Represents, START, State, state_at, Transition, transition_bytes, transitions_of, word}
 use Rattle.ac_util.proofs.PiecesLemmas.{slice_range-append}
-use Rattle.ac_automaton.specs.Prelude.{AreStates, FIRST_INNER, IsGrown, key_at, Keyed, TrieView, nodes_of, transition_target, QueuedState, Represents, START, State, state_at, Transition, transition_bytes, transitions_of, word}
 use Rattle.ac_automaton.proofs.Places.{get-from_map, get-same}
 
 -- what a number says of its node: dead, the start, or the string of a state in the queue

@@ -1,14 +1,10 @@
 -- The first of the matches that a state lists, and whether it is due.
-use Rattle.std.proofs.Common.{◌≡◌, ◌≢◌, ℕ, ◌-◌, ◌<◌, ◌≤◌, true, false, List, [], ◌∷◌, ◌++◌, length, inl, refl, ap, sym, ◌∙◌, subst, arith, Option, Some, None, option_map, slice_get, rules}
-use Rattle.std.proofs.lemmas.Bool.{eq-eqb, eqb-true, false≢true}
-use Rattle.std.proofs.lemmas.Grind.{common_steps}
-use Rattle.ac_util.specs.declared.search.Anchored.{Anchored}
-use Rattle.ac_automaton.specs.Util.{Built, No, Node, pattern_of, Yes}
+use Rattle.ac_util.proofs.Prelude.{◌≡◌, ◌≢◌, ℕ, ◌-◌, ◌<◌, ◌≤◌, true, false, List, [], ◌∷◌, ◌++◌, length, inl, refl, ap, sym, ◌∙◌, subst, arith, Option, Some, None, option_map, slice_get, rules, eq-eqb, eqb-true, false≢true, common_steps}
+use Rattle.ac_automaton.specs.Prelude.{Anchored, Built, No, Node, pattern_of, Yes, FitsIn, found_at, is_due, Lists, matches_of, place_of, plain_of}
 use Rattle.ac_util.proofs.Advance.{append_nil_left}
 use Rattle.ac_util.proofs.Lists.{IsIn, IsIn-append_left}
 use Rattle.ac_util.proofs.Participants.{IsIn-from_equal_to}
 use Rattle.ac_util.proofs.Found.{matches-fits, matches-whole}
-use Rattle.ac_automaton.specs.Prelude.{FitsIn, found_at, is_due, Lists, matches_of, place_of, plain_of}
 
 -- a pattern is as long as its plain string
 pub plain_length : (built : Built) (n : ℕ)

@@ -1,14 +1,9 @@
 -- Which of all patterns in order take part under LeftmostFirst.
-use Rattle.std.proofs.Common.{◌≡◌, ℕ, ◌+◌, ◌-◌, ◌<◌, ◌≤◌, Bool, true, false, List, [], ◌∷◌, ◌++◌, length, take, get_or, ◌⊎◌, inl, inr, refl, ap, sym, ◌∙◌, subst, arith, length-set, set, nat_eq, filter, All, rules}
-use Rattle.std.specs.List.{AllWithin, HoldsAt, range_with_len, starts_with}
-use Rattle.std.proofs.lemmas.List.{get_or-map, length-map, map-append, take-map}
-use Rattle.std.proofs.lemmas.List.Elements.{All-filter, All-set}
+use Rattle.ac_util.proofs.Prelude.{◌≡◌, ℕ, ◌+◌, ◌-◌, ◌<◌, ◌≤◌, Bool, true, false, List, [], ◌∷◌, ◌++◌, length, take, get_or, ◌⊎◌, inl, inr, refl, ap, sym, ◌∙◌, subst, arith, length-set, set, nat_eq, filter, All, rules, AllWithin, HoldsAt, range_with_len, starts_with, get_or-map, length-map, map-append, take-map, All-filter, All-set, common_steps}
+use Rattle.ac_automaton.specs.Prelude.{GREATEST, LeftmostFirst, LeftmostLongest, MatchKind, participants, participates, pattern_of, plain, Standard, is_prefix, IsOrder, key_at, Keyed, keyed, keyed_one, numbers, Precedes, SortedPattern}
 use Rattle.std.proofs.lemmas.List.Filters.{FiltersInPlace, FiltersInPlace-all, FiltersInPlace-more_no, FiltersInPlace-more_set}
 use Rattle.std.proofs.lemmas.List.Kept.{AllPairs-filter}
-use Rattle.std.proofs.lemmas.Grind.{common_steps}
-use Rattle.ac_automaton.specs.Util.{GREATEST, LeftmostFirst, LeftmostLongest, MatchKind, participants, participates, pattern_of, plain, Standard}
 use Rattle.ac_util.proofs.Lists.{IsIn, IsIn-at, IsIn-map, IsIn-from_map, IsIn-filter, IsIn-from_filter, IsIn-range, IsIn-from_range, Contains-from_IsIn, IsIn-from_Contains}
-use Rattle.ac_automaton.specs.Prelude.{is_prefix, IsOrder, key_at, Keyed, keyed, keyed_one, numbers, Precedes, SortedPattern}
 use Rattle.ac_automaton.proofs.Places.{IsIn-from_take}
 use Rattle.ac_automaton.proofs.Stacks.{Standing, Standing-keep, Standing-shrink, Standing-skip, least-from_last, no_part, none, numbered, sorted_of, takes_part_here}
 

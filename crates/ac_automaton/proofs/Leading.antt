@@ -1,19 +1,12 @@
 -- The transitions by a plain byte, and those of a state in ascending order.
-use Rattle.std.proofs.Common.{◌≡◌, ◌≢◌, ℕ, ◌+◌, ◌<◌, ◌≤◌, Bool, true, List, [], ◌∷◌, length, get_or, sym, ◌∙◌, arith, AllPairs, nat_eq, rules}
+use Rattle.ac_util.proofs.Prelude.{◌≡◌, ◌≢◌, ℕ, ◌+◌, ◌<◌, ◌≤◌, Bool, true, List, [], ◌∷◌, length, get_or, sym, ◌∙◌, arith, AllPairs, nat_eq, rules, IsPermutation, IsSortedByKey, IsStrictlyIncreasing, nat_cmp, cases_lt, Decides-eqb, nat_tests, get_or-map, length-map, common_steps}
+use Rattle.ac_automaton.specs.Prelude.{plain_byte, leading, Transition, transition_bytes}
 use Rattle.std.specs.Char.{is_ascii_lowercase, to_ascii_lowercase, to_ascii_uppercase}
-use Rattle.std.specs.List.Sorted.{IsPermutation, IsSortedByKey, IsStrictlyIncreasing}
-use Rattle.std.specs.Ordering.{nat_cmp}
-use Rattle.std.proofs.lemmas.Bool.{cases_lt}
-use Rattle.std.proofs.lemmas.Bool.Decides.{Decides-eqb, nat_tests}
 use Rattle.std.proofs.lemmas.Cmp.{nat_eq_equiv}
-use Rattle.std.proofs.lemmas.List.{get_or-map, length-map}
 use Rattle.std.proofs.lemmas.List.Sorted.{IsPermutation-map}
 use Rattle.std.proofs.lemmas.Map.Keys.{IsDistinct-IsPermutation, ge_from_not_lt}
 use Rattle.std.proofs.lemmas.Map.Made.{AllPairs-from_IsDistinct, IsDistinct-from_AllPairs}
-use Rattle.std.proofs.lemmas.Grind.{common_steps}
-use Rattle.ac_util.specs.Occurrence.{plain_byte}
 use Rattle.ac_util.proofs.Lists.{IsIn, IsOrdered}
-use Rattle.ac_automaton.specs.Prelude.{leading, Transition, transition_bytes}
 
 -- a small letter and its capital are one letter, and differ
 capital : (b : ℕ) → is_ascii_lowercase b ≡ true

@@ -1,8 +1,6 @@
 -- Where bytes lead a scan, one after another.
-use Rattle.std.proofs.Common.{◌≡◌, ℕ, zero, suc, ◌+◌, List, ap, sym, ◌∙◌, arith, None, slice_index}
-use Rattle.ac_automaton.specs.Util.{Node}
-use Rattle.ac_automaton.specs.Prelude.{Scan, step_of}
-use Rattle.ac_automaton.specs.Reads.{led}
+use Rattle.ac_util.proofs.Prelude.{◌≡◌, ℕ, zero, suc, ◌+◌, List, ap, sym, ◌∙◌, arith, None, slice_index}
+use Rattle.ac_automaton.specs.Prelude.{Node, Scan, step_of, led}
 
 module _ (s : Scan) (bytes : List ℕ) (u : Node) (from : ℕ) where
   -- bytes lead on from where others have led

@@ -1,12 +1,7 @@
 -- Where bytes lead the walks over them.
-use Rattle.std.proofs.Common.{◌≡◌, ℕ, zero, suc, ◌+◌, ◌<◌, ◌≤◌, Bool, List, [], refl, ap, sym, ◌∙◌, subst, arith, None, Some, slice_index}
-use Rattle.ac_automaton.specs.Util.{Built, No, Node, Occurrence, plain_byte, Search}
-use Rattle.ac_util.specs.Prelude.{reached, step, text}
-use Rattle.ac_util.specs.declared.search.Anchored.{Anchored}
-use Rattle.ac_util.specs.Commits.{IsSearchFor, StandsAfter}
+use Rattle.ac_util.proofs.Prelude.{◌≡◌, ℕ, zero, suc, ◌+◌, ◌<◌, ◌≤◌, Bool, List, [], refl, ap, sym, ◌∙◌, subst, arith, None, Some, slice_index}
+use Rattle.ac_automaton.specs.Prelude.{Built, No, Node, Occurrence, plain_byte, Search, reached, step, text, Anchored, IsSearchFor, StandsAfter, AutomatonView, node_at, plain_of, scan_of, step_of, led}
 use Rattle.ac_util.proofs.Onward.{after-byte, byte_at}
-use Rattle.ac_automaton.specs.Prelude.{AutomatonView, node_at, plain_of, scan_of, step_of}
-use Rattle.ac_automaton.specs.Reads.{led}
 use Rattle.ac_automaton.proofs.Led.{led-byte, led-dead, led-none}
 
 -- a search for the patterns has these bytes from an offset on, as far as one of them

@@ -1,8 +1,7 @@
 -- The shortest and the longest of a list of patterns, found one pattern at a time.
-use Rattle.std.proofs.Common.{◌≡◌, ℕ, ◌+◌, ◌≤◌, List, [], ◌∷◌, length, drop, min, max, Some, ap, arith, slice_get}
-use Rattle.ac_util.specs.Patterns.{longest_len, shortest_len}
+use Rattle.ac_util.proofs.Prelude.{◌≡◌, ℕ, ◌+◌, ◌≤◌, List, [], ◌∷◌, length, drop, min, max, Some, ap, arith, slice_get}
+use Rattle.ac_automaton.specs.Prelude.{longest_len, shortest_len, usize_max}
 use Rattle.ac_util.proofs.Lists.{drop-slice_get}
-use Rattle.ac_automaton.specs.Util.{usize_max}
 
 -- the shortest of no list of patterns passes the greatest usize
 pub shortest_len-le : (ps : List (List ℕ)) → shortest_len ps ≤ usize_max

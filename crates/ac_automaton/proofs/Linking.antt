@@ -1,9 +1,8 @@
 -- Where an output link leads: to the first state along the failure targets that has patterns.
-use Rattle.std.proofs.Common.{◌≢◌, ℕ, ◌<◌, ◌≤◌, List, [], ◌∷◌, length, refl, arith, Some, None, rules}
-use Rattle.std.proofs.lemmas.Grind.{common_steps}
+use Rattle.ac_util.proofs.Prelude.{◌≢◌, ℕ, ◌<◌, ◌≤◌, List, [], ◌∷◌, length, refl, arith, Some, None, rules, common_steps}
+use Rattle.ac_automaton.specs.Prelude.{AreStates, DEAD, LinkIsDue, Links, TrieView, fallback, Represents, State, state_at, state_patterns}
 use Rattle.ac_util.proofs.Advance.{append_nil_left}
 use Rattle.ac_util.proofs.Found.{matches-failure}
-use Rattle.ac_automaton.specs.Prelude.{AreStates, DEAD, LinkIsDue, Links, TrieView, fallback, Represents, State, state_at, state_patterns}
 
 -- a state has patterns exactly if its range of them isn't empty
 pub state_patterns-some : (order : List ℕ) (t : State) → t.patterns < t.patterns_end

@@ -1,20 +1,15 @@
 -- A listing that reads byte by byte: which item is due where the automaton stands, and what is listed with one byte
 -- more.
-use Rattle.std.proofs.Common.{◌≡◌, ◌⊎◌, ℕ, zero, suc, ◌+◌, ◌-◌, ◌<◌, ◌≤◌, Bool, true, cond, List, [], ◌∷◌, ◌++◌, map, length, length-append, inl, inr, refl, ap, sym, subst, ◌∙◌, arith, Option, Some, None, All, slice_get, rules}
-use Rattle.std.specs.List.{take_while}
-use Rattle.std.proofs.lemmas.List.{append_assoc, length-map}
+use Rattle.ac_util.proofs.Prelude.{◌≡◌, ◌⊎◌, ℕ, zero, suc, ◌+◌, ◌-◌, ◌<◌, ◌≤◌, Bool, true, cond, List, [], ◌∷◌, ◌++◌, map, length, length-append, inl, inr, refl, ap, sym, subst, ◌∙◌, arith, Option, Some, None, All, slice_get, rules, take_while, append_assoc, length-map, slice_get_past, common_steps}
+use Rattle.ac_automaton.specs.Prelude.{all, ending, item_at, MatchKind, Node, Occurrence, Occurs, pattern_of, place_after, Search, Span, Standard, Cursor, due_in, given_in, HasMoved, in_memory, IsAt, IsListed, IsState, Lists, matches_of, MatchRest, node, node_at, PassesNoMatch, Reached, rest_in, Scan, ScanText, search_through, Work, HasGivenItem}
 use Rattle.std.proofs.lemmas.List.Sums.{take_while-cons}
-use Rattle.std.proofs.lemmas.Option.{slice_get_past}
-use Rattle.std.proofs.lemmas.Grind.{common_steps}
-use Rattle.ac_automaton.specs.Util.{all, ending, found_at_end, item_at, MatchKind, Node, Occurrence, Occurs, pattern_of, place_after, Search, Span, Standard}
 use Rattle.ac_util.proofs.Lists.{IsIn-append_right}
 use Rattle.ac_util.proofs.Listing.{all-only}
 use Rattle.ac_util.proofs.ListingBeginning.{ListsMore, all-dead, all-longer_by, item-none, item-some}
 use Rattle.ac_util.proofs.ListingLonger.{all-empty, all-longer}
-use Rattle.ac_automaton.specs.Prelude.{Cursor, due_in, given_in, HasMoved, in_memory, IsAt, IsListed, IsState, Lists, matches_of, MatchRest, node, node_at, PassesNoMatch, Reached, rest_in, Scan, ScanText, search_through, Work}
-use Rattle.ac_automaton.specs.Overlaps.{HasGivenItem}
 use Rattle.ac_automaton.proofs.Due.{counts, listed-due, listed-numbered}
 use Rattle.ac_automaton.proofs.ReadOn.{node-fits}
+use Rattle.ac_util.proofs.OneLonger.{found_at_end}
 
 -- the element after a list in two lists put together
 pub get-beyond : {X : Type 0} (xs ys : List X) (y : X) → slice_get (xs ++ y ∷ ys) (length xs) ≡ Some y

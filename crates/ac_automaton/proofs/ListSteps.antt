@@ -1,13 +1,8 @@
 -- A listing on its way: it has read on, and has given no item yet.
-use Rattle.std.proofs.Common.{◌≡◌, ◌⊎◌, ◌<◌, ℕ, [], IsTrue, ◌↔◌, Bool, false, subst, sym, ◌∙◌, inr, Option, Some, None, rules}
-use Rattle.std.proofs.lemmas.Bool.{cases_lt, false≢true}
-use Rattle.ac_automaton.specs.Util.{Counts, Node, Occurrence, Taped}
-use Rattle.ac_automaton.specs.Prelude.{Cursor, due_in, in_memory, IsAlive, Lists, ListsOn, MayAdvance, MayList, node, PassesNoMatch, Reached, Scan, ScannerView, ScansTo, ScanText, search_through, work_of}
-use Rattle.ac_automaton.specs.Overlaps.{HasGivenItem, TakesDue}
-use Rattle.ac_automaton.specs.Reads.{Advances, at}
+use Rattle.ac_util.proofs.Prelude.{◌≡◌, ◌⊎◌, ◌<◌, ℕ, [], IsTrue, ◌↔◌, Bool, false, subst, sym, ◌∙◌, inr, Option, Some, None, rules, cases_lt, false≢true, ◌≤◌}
+use Rattle.ac_automaton.specs.Prelude.{Counts, Node, Occurrence, Taped, Cursor, due_in, in_memory, IsAlive, Lists, ListsOn, MayAdvance, MayList, node, PassesNoMatch, Reached, Scan, ScannerView, ScansTo, ScanText, search_through, work_of, HasGivenItem, TakesDue, Advances, at}
 use Rattle.ac_automaton.proofs.ListLoop.{HasComeOn, come-on, has-moved}
 use Rattle.ac_automaton.proofs.ReadOn.{scans-on}
-use Rattle.std.specs.Prelude.{◌≤◌}
 
 -- the listing has come on to here, and has given no item
 pub record HasListedOn (v : ScannerView) (start : Reached) (tape : Taped) (counts : Counts) (reached : Reached)

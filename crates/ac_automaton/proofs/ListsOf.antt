@@ -1,10 +1,6 @@
 -- What a state lists along its output links are the matches of its node.
-use Rattle.std.proofs.Common.{◌≡◌, ◌≢◌, ℕ, zero, suc, ◌+◌, ◌-◌, ◌≤◌, ◌<◌, List, [], ◌∷◌, ◌++◌, length, get_or, drop, refl, ap, sym, ◌∙◌, arith, None, rules}
-use Rattle.std.proofs.Math.Seq.{drop-append-add}
-use Rattle.std.proofs.lemmas.List.{drop-append-le, get_or-drop, get_or-take, get_or_default}
-use Rattle.std.proofs.lemmas.Grind.{common_steps}
-use Rattle.ac_util.specs.Node.{Node}
-use Rattle.ac_automaton.specs.Prelude.{all_matches, DEAD, HasState, listed_within, TrieView, Represents, State, state_at, state_patterns}
+use Rattle.ac_util.proofs.Prelude.{◌≡◌, ◌≢◌, ℕ, zero, suc, ◌+◌, ◌-◌, ◌≤◌, ◌<◌, List, [], ◌∷◌, ◌++◌, length, get_or, drop, refl, ap, sym, ◌∙◌, arith, None, rules, drop-append-add, drop-append-le, get_or-drop, get_or-take, get_or_default, common_steps}
+use Rattle.ac_automaton.specs.Prelude.{Node, all_matches, DEAD, HasState, listed_within, TrieView, Represents, State, state_at, state_patterns}
 use Rattle.ac_automaton.proofs.Follows.{represented}
 
 -- what is left of a list from one of its elements on begins with that element

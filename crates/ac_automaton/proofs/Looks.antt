@@ -1,12 +1,8 @@
 -- The looks of a step, and what pays them.
-use Rattle.std.proofs.Common.{◌≡◌, ◌⊎◌, ℕ, zero, suc, ◌+◌, ◌≤◌, ◌==◌, if◌then◌else◌, Bool, true, false, List, [], ◌∷◌, ◌++◌, arith, refl, None, Some, rules}
-use Rattle.std.proofs.lemmas.Grind.{common_steps}
-use Rattle.ac_util.specs.Prelude.{depth, failure, is_node, looks_within}
-use Rattle.ac_util.specs.declared.search.Anchored.{Anchored}
-use Rattle.ac_automaton.specs.Util.{Built, credit, looks, MatchKind, No, Node, plain_byte, Yes}
+use Rattle.ac_util.proofs.Prelude.{◌≡◌, ◌⊎◌, ℕ, zero, suc, ◌+◌, ◌≤◌, ◌==◌, if◌then◌else◌, Bool, true, false, List, [], ◌∷◌, ◌++◌, arith, refl, None, Some, rules, common_steps}
+use Rattle.ac_automaton.specs.Prelude.{depth, failure, is_node, looks_within, Anchored, Built, credit, looks, MatchKind, No, Node, plain_byte, Yes, looks_of, most_looks, plain_of, step_of}
 use Rattle.ac_util.proofs.Failures.{looks-paid}
 use Rattle.ac_util.proofs.SearchLoop.{step-paid}
-use Rattle.ac_automaton.specs.Prelude.{looks_of, most_looks, plain_of, step_of}
 
 -- each step looks at a state
 within-one : (kind : MatchKind) (patterns : List (List ℕ)) (n : ℕ) (v : Node) (b : ℕ) → 1 ≤ looks_within kind patterns n v b

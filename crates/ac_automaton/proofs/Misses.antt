@@ -1,14 +1,11 @@
 -- Where a search goes on by a byte that leads to no longer node, one byte further on.
-use Rattle.std.proofs.Common.{◌≡◌, ◌≢◌, ℕ, Bool, true, false, ◌&&◌, cond, List, [], ◌∷◌, ◌++◌, inl, inr, refl, ap, sym, ◌∙◌, Some, None, rules, arith}
-use Rattle.std.proofs.lemmas.Bool.{cases_Bool, cond-true, false_from_ne_true, false≢true}
-use Rattle.std.proofs.lemmas.Grind.{common_steps}
-use Rattle.ac_automaton.specs.Util.{begins_with_pattern, equal_to, is_leftmost, MatchKind, No, reached, step}
+use Rattle.ac_util.proofs.Prelude.{◌≡◌, ◌≢◌, ℕ, Bool, true, false, ◌&&◌, cond, List, [], ◌∷◌, ◌++◌, inl, inr, refl, ap, sym, ◌∙◌, Some, None, rules, arith, cases_Bool, cond-true, false_from_ne_true, false≢true, common_steps}
+use Rattle.ac_automaton.specs.Prelude.{begins_with_pattern, equal_to, is_leftmost, MatchKind, No, reached, step, fallback}
 use Rattle.ac_util.proofs.Failures.{failure-cons}
 use Rattle.ac_util.proofs.Prefixes.{starts_with-whole}
 use Rattle.ac_util.proofs.Lists.{none-from_nil}
 use Rattle.ac_util.proofs.Participants.{IsIn-equal_to, begins-more, begins-from_Prefixes, leader, leader-takes_part, equal_to-none_begins}
 use Rattle.ac_util.proofs.Reached.{stops, reached-nil, step-reached}
-use Rattle.ac_automaton.specs.Tries.{fallback}
 
 module _ (kind : MatchKind) (patterns : List (List ℕ)) where
   -- where no pattern is the longer string, it begins with a pattern if the shorter one does

@@ -1,12 +1,6 @@
 -- Where a walk stops reading that reads each byte once, and what it has given then.
-use Rattle.std.proofs.Common.{◌≡◌, ℕ, ◌+◌, ◌-◌, ◌*◌, ◌≤◌, false, List, [], Option, None, Some, MatchOption}
-use Rattle.ac_automaton.specs.Util.{from, may_skip, No, Occurrence, pick, Search}
-use Rattle.ac_automaton.specs.declared.automaton.commits.ChainMatch.{ChainMatch}
-use Rattle.ac_automaton.specs.declared.automaton.onward.ChainRest.{ChainRest}
-use Rattle.ac_automaton.specs.Prelude.{AutomatonView, Cursor, scan_of, step_of, Work}
-use Rattle.ac_automaton.specs.Cores.{pending}
-use Rattle.ac_automaton.specs.Onward.{HasCounted, IsCounted, IsOnward, IsRestBefore, StandsBy}
-use Rattle.ac_automaton.specs.Reads.{in_hand, tried}
+use Rattle.ac_util.proofs.Prelude.{◌≡◌, ℕ, ◌+◌, ◌-◌, ◌*◌, ◌≤◌, false, List, [], Option, None, Some, MatchOption}
+use Rattle.ac_automaton.specs.Prelude.{from, may_skip, No, Occurrence, pick, Search, ChainMatch, ChainRest, AutomatonView, Cursor, scan_of, step_of, Work, pending, HasCounted, IsCounted, IsOnward, IsRestBefore, StandsBy, in_hand, tried}
 
 -- it reads on no further: the byte in hand leads to the dead node, or the span is read to its end
 pub record HasStopped (a : AutomatonView) (q : Search) (start : ℕ) (cursor : Cursor) (byte : Option ℕ) (work : Work) : Type 0 where

@@ -1,27 +1,12 @@
 -- What a walk gives that reads each byte once, and that it goes on from there.
-use Rattle.std.proofs.Common.{◌≡◌, ◌⊎◌, ℕ, ◌+◌, ◌-◌, ◌*◌, ◌<◌, ◌≤◌, ◌==◌, if◌then◌else◌, Bool, true, false, List, [], ◌∷◌, length, drop, map, slice_get, slice_index, refl, ap, sym, ◌∙◌, subst, arith, Option, None, Some, IfSome, MatchOption, option_map, inl, inr}
-use Rattle.std.proofs.Math.Seq.{drop-length}
-use Rattle.std.proofs.lemmas.Bool.{false≢true}
-use Rattle.std.proofs.lemmas.Grind.{common_steps}
-use Rattle.ac_util.specs.Prelude.{step}
-use Rattle.ac_util.specs.Commits.{standing_at, IsPickIn, IsSearchFor, Commits, Anything, StandsAfter}
-use Rattle.ac_automaton.specs.Util.{Counts, credit, No, Occurrence, plain_byte, Search}
+use Rattle.ac_util.proofs.Prelude.{◌≡◌, ◌⊎◌, ℕ, ◌+◌, ◌-◌, ◌*◌, ◌<◌, ◌≤◌, ◌==◌, if◌then◌else◌, Bool, true, false, List, [], ◌∷◌, length, drop, map, slice_get, slice_index, refl, ap, sym, ◌∙◌, subst, arith, Option, None, Some, IfSome, MatchOption, option_map, inl, inr, drop-length, false≢true, common_steps}
+use Rattle.ac_automaton.specs.Prelude.{step, standing_at, IsPickIn, IsSearchFor, Commits, Anything, StandsAfter, Counts, credit, No, Occurrence, plain_byte, Search, AutomatonView, Cursor, matches_of, place_of, plain_of, search_of, step_of, Work, ending_in, IsCommit, reads_on, chain_of, first_given, GivesAt, IsGiven, HasCounted, IsCounted, IsRestBefore, in_hand, tried, scan_of, ChainMatch, Commit, ChainRest, Given}
 use Rattle.ac_util.proofs.Commits.{commits-nil}
 use Rattle.ac_util.proofs.NodeCommits.{node-paid, node-shorter}
 use Rattle.ac_util.proofs.NodePicks.{match-picked}
 use Rattle.ac_util.proofs.Onward.{byte_at}
 use Rattle.ac_util.proofs.SearchLoop.{step-paid}
-use Rattle.ac_automaton.specs.Prelude.{AutomatonView, Cursor, matches_of, place_of, plain_of, search_of, step_of, Work}
-use Rattle.ac_automaton.specs.Commits.{ending_in, IsCommit, reads_on}
-use Rattle.ac_automaton.specs.Cores.{chain_of, first_given, GivesAt, GivesOf, IsGiven}
-use Rattle.ac_automaton.specs.Onward.{HasCounted, IsCounted, IsRestBefore}
 use Rattle.ac_automaton.proofs.OnwardEnds.{HasGiven, HasStopped}
-use Rattle.ac_automaton.specs.Reads.{in_hand, tried}
-use Rattle.ac_automaton.specs.Scans.{scan_of}
-use Rattle.ac_automaton.specs.declared.automaton.commits.ChainMatch.{ChainMatch}
-use Rattle.ac_automaton.specs.declared.automaton.commits.Commit.{Commit}
-use Rattle.ac_automaton.specs.declared.automaton.onward.ChainRest.{ChainRest}
-use Rattle.ac_automaton.specs.declared.automaton.onward.Given.{Given}
 use Rattle.ac_automaton.proofs.OnwardLists.{on-leftmost, on-some}
 use Rattle.ac_automaton.proofs.PastGives.{ends-there, goes-on, has-bytes, never-dead, onward, picks-first, rest-within}
 
@@ -36,13 +21,16 @@ none-of start listed none = sym (ap (first_given start) none)
 
 -- what is given, whether it stops at a match or not
 pub gives-at : (a : AutomatonView) (chains : List (List ChainMatch)) (start s : ℕ) (stops : Bool) {result : Option Given}
-    → (stops ≡ true → result ≡ first_given start (a.listed s)) → (stops ≡ false → GivesOf a chains s result)
+    → (stops ≡ true → result ≡ first_given start (a.listed s))
+    → (stops ≡ false → (u : List ℕ) → a.stands No s (Some u)
+    → MatchOption result (IsPickIn a.built.kind (plain_of a.built) No u None) (IsGiven a chains u))
     → GivesAt a chains start stops s result
 gives-at a chains start s true first past = first refl
 gives-at a chains start s false first past = past refl
 
 pub gives-past : (a : AutomatonView) (chains : List (List ChainMatch)) (start s : ℕ) (stops : Bool) (result : Option Given)
-    → stops ≡ false → GivesAt a chains start stops s result → GivesOf a chains s result
+    → stops ≡ false → GivesAt a chains start stops s result → (u : List ℕ) → a.stands No s (Some u)
+    → MatchOption result (IsPickIn a.built.kind (plain_of a.built) No u None) (IsGiven a chains u)
 gives-past a chains start s true result past gives = absurd (false≢true (sym past))
 gives-past a chains start s false result past gives = gives
 

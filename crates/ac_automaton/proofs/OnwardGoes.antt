@@ -1,23 +1,9 @@
 -- A search goes on: by the next match of its chain, by what it has read, or by what its prefilter finds.
-use Rattle.std.proofs.Common.{◌≡◌, ◌⊎◌, ◌≤◌, ◌<◌, ◌+◌, ◌-◌, ℕ, zero, suc, Bool, false, true, List, [], length, slice_index, slice_get, option_map, ap, sym, ◌∙◌, subst, refl, arith, inl, inr, Option, None, Some}
-use Rattle.std.proofs.lemmas.Bool.{false≢true}
-use Rattle.std.proofs.lemmas.List.{length-map}
-use Rattle.ac_automaton.specs.Util.{Built, Counts, depth, IsNeedleMatch, MatchKind, No, Node, Occurrence, pattern_of, plain as plain-of, Search, Taped, text, usize_max}
-use Rattle.ac_util.specs.Commits.{end_after, StandsAfter}
+use Rattle.ac_util.proofs.Prelude.{◌≡◌, ◌⊎◌, ◌≤◌, ◌<◌, ◌+◌, ◌-◌, ℕ, zero, suc, Bool, false, true, List, [], length, slice_index, slice_get, option_map, ap, sym, ◌∙◌, subst, refl, arith, inl, inr, Option, None, Some, false≢true, length-map}
+use Rattle.ac_automaton.specs.Prelude.{Built, Counts, depth, IsNeedleMatch, MatchKind, No, Node, Occurrence, pattern_of, plain as plain-of, Search, Taped, text, usize_max, end_after, StandsAfter, Lists, AutomatonView, Cursor, MovesApart, plain_of, Scan, search_of, Work, work_of, end_of, FitsBefore, Leaves, GivesAt, GoesBy, IsSearchBy, MayGo, pending, PicksBy, point_of, scan_by, Spot, spot, IsOnward, IsOnwardIn, IsRestBefore, reached_by, hand_of, HasReadOn, in_hand, led, MayRead, Point, ReadsOn, ReadsToStop, Grows, scan_of, ChainMatch, Core, Given, Position, Dead}
 use Rattle.ac_util.proofs.Failures.{depth-reached}
 use Rattle.ac_util.proofs.Spans.{text_length}
-use Rattle.ac_automaton.specs.Automata.{Lists}
-use Rattle.ac_automaton.specs.Prelude.{AutomatonView, Cursor, MovesApart, plain_of, Scan, search_of, Work, work_of}
-use Rattle.ac_automaton.specs.Cores.{end_of, FitsBefore, Leaves, GivesAt, GoesBy, IsSearchBy, MayGo, pending, PicksBy, point_of, scan_by, Spot, spot}
-use Rattle.ac_automaton.specs.Onward.{IsOnward, IsOnwardIn, IsRestBefore, reached_by}
 use Rattle.ac_automaton.proofs.OnwardEnds.{HasGiven, HasStopped}
-use Rattle.ac_automaton.specs.Reads.{hand_of, HasReadOn, in_hand, led, MayRead, Point, ReadsOn, ReadsToStop}
-use Rattle.ac_automaton.specs.Scans.{Grows, scan_of}
-use Rattle.ac_automaton.specs.declared.automaton.commits.ChainMatch.{ChainMatch}
-use Rattle.ac_automaton.specs.declared.automaton.onward.Core.{Core}
-use Rattle.ac_automaton.specs.declared.automaton.onward.Given.{Given}
-use Rattle.ac_automaton.specs.declared.automaton.onward.Position.{Position}
-use Rattle.ac_automaton.specs.declared.automaton.scan.Dead.{Dead}
 use Rattle.ac_automaton.proofs.Heads.{head-fits, plain_length}
 use Rattle.ac_automaton.proofs.Looks.{step-short}
 use Rattle.ac_automaton.proofs.OnwardGives.{given-none, given-some, gives-past}

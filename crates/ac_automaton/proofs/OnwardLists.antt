@@ -1,11 +1,7 @@
 -- The lists of patterns whose walks read each byte once.
-use Rattle.std.proofs.Common.{◌≡◌, ℕ, ◌<◌, true, length, arith}
-use Rattle.std.proofs.lemmas.Bool.{and_parts, ltb-true}
-use Rattle.std.proofs.lemmas.List.{length-map}
-use Rattle.ac_automaton.specs.Util.{Built, is_leftmost, pattern_of, plain, shortest_len}
+use Rattle.ac_util.proofs.Prelude.{◌≡◌, ℕ, ◌<◌, true, length, arith, and_parts, ltb-true, length-map}
+use Rattle.ac_automaton.specs.Prelude.{Built, is_leftmost, pattern_of, plain, shortest_len, plain_of, reads_on}
 use Rattle.ac_util.proofs.Shortest.{shortest-least}
-use Rattle.ac_automaton.specs.Prelude.{plain_of}
-use Rattle.ac_automaton.specs.Commits.{reads_on}
 use Rattle.ac_automaton.proofs.Heads.{plain_length}
 
 -- a walk that reads each byte once is a leftmost one

@@ -1,10 +1,7 @@
 -- A walk that reads each byte once by a single pattern, and is at its start: its prefilter answers the next match.
-use Rattle.std.proofs.Common.{◌≡◌, ℕ, zero, suc, ◌+◌, ◌-◌, ◌*◌, ◌<◌, ◌≤◌, Bool, true, false, List, [], ◌∷◌, length, refl, ap, sym, ◌∙◌, subst, arith, Option, None, Some, rules}
+use Rattle.ac_util.proofs.Prelude.{◌≡◌, ℕ, zero, suc, ◌+◌, ◌-◌, ◌*◌, ◌<◌, ◌≤◌, Bool, true, false, List, [], ◌∷◌, length, refl, ap, sym, ◌∙◌, subst, arith, Option, None, Some, rules, false≢true}
+use Rattle.ac_automaton.specs.Prelude.{Built, Counts, credit, from, IsNeedleMatch, MatchKind, may_skip, No, Node, Occurrence, Occurs, one_more_call, participates, pick, reached, Search, search_over, Standard, text, Needle, IsPickIn, AutomatonView, Cursor, plain_of, search_of, Skips, Work, reads_on, IsCounted, IsOnward, ChainMatch, ChainRest}
 use Rattle.std.specs.Option.{is_some}
-use Rattle.std.proofs.lemmas.Bool.{false≢true}
-use Rattle.ac_automaton.specs.Util.{Built, Counts, credit, from, IsNeedleMatch, MatchKind, may_skip, No, Node, Occurrence, Occurs, one_more_call, participates, pick, reached, Search, search_over, Standard, text}
-use Rattle.ac_util.specs.Prefilters.Skip.{Needle}
-use Rattle.ac_util.specs.Commits.{IsPickIn}
 use Rattle.ac_util.proofs.AtStart.{pick-rest}
 use Rattle.ac_util.proofs.NodeRests.{pick-in_node, reached-rest}
 use Rattle.ac_util.proofs.Onward.{after-start}
@@ -13,12 +10,7 @@ use Rattle.ac_util.proofs.PickedWalks.{pick-some}
 use Rattle.ac_util.proofs.Spans.{Stands-from_Occurs}
 use Rattle.ac_util.proofs.Standing.{Stands-end}
 use Rattle.ac_util.proofs.Walks.{pick-Occurs}
-use Rattle.ac_automaton.specs.Prelude.{AutomatonView, Cursor, plain_of, search_of, Skips, Work}
-use Rattle.ac_automaton.specs.Commits.{reads_on}
-use Rattle.ac_automaton.specs.Onward.{IsCounted, IsOnward}
 use Rattle.ac_automaton.proofs.OnwardEnds.{HasGiven}
-use Rattle.ac_automaton.specs.declared.automaton.commits.ChainMatch.{ChainMatch}
-use Rattle.ac_automaton.specs.declared.automaton.onward.ChainRest.{ChainRest}
 use Rattle.ac_automaton.proofs.OnwardLists.{on-leftmost, on-some}
 
 -- each pattern of a list of one takes part

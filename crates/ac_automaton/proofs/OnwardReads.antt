@@ -1,12 +1,7 @@
 -- A walk that reads each byte once reads on: where it stands then, and what it has counted.
-use Rattle.std.proofs.Common.{◌≡◌, ◌⊎◌, ℕ, ◌+◌, ◌-◌, ◌*◌, ◌<◌, ◌≤◌, false, List, [], length, slice_index, refl, ap, sym, ◌∙◌, subst, inl, inr, arith, IfSome, Option, None, Some, MatchOption}
-use Rattle.std.proofs.lemmas.Bool.{false≢true}
-use Rattle.ac_util.specs.Commits.{StandsAfter}
-use Rattle.ac_automaton.specs.Util.{No, Occurrence, Search}
-use Rattle.ac_automaton.specs.Prelude.{AutomatonView, plain_of, Scan, scan_of, search_of, step_of}
-use Rattle.ac_automaton.specs.Onward.{HasCounted, IsOnward, StandsBy}
+use Rattle.ac_util.proofs.Prelude.{◌≡◌, ◌⊎◌, ℕ, ◌+◌, ◌-◌, ◌*◌, ◌<◌, ◌≤◌, false, List, [], length, slice_index, refl, ap, sym, ◌∙◌, subst, inl, inr, arith, IfSome, Option, None, Some, MatchOption, false≢true}
+use Rattle.ac_automaton.specs.Prelude.{StandsAfter, No, Occurrence, Search, AutomatonView, plain_of, Scan, scan_of, search_of, step_of, HasCounted, IsOnward, StandsBy, Comes, MayRead, Point, ReadsEnough, ReadsOn, StopsAt, tried}
 use Rattle.ac_automaton.proofs.OnwardEnds.{HasStopped}
-use Rattle.ac_automaton.specs.Reads.{Comes, MayRead, Point, ReadsEnough, ReadsOn, StopsAt, tried}
 use Rattle.ac_automaton.proofs.LedWalks.{IsSearchOf, led-after}
 
 -- so many for each of some, and for each of what came to them

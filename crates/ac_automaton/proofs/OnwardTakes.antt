@@ -1,15 +1,7 @@
 -- A walk that reads each byte once gives the match that comes next in its chain.
-use Rattle.std.proofs.Common.{◌≡◌, ℕ, ◌+◌, ◌-◌, ◌<◌, ◌≤◌, Bool, true, List, [], length, slice_get, refl, sym, subst, arith, Option, None, Some, IfSome, MatchOption}
-use Rattle.std.proofs.lemmas.Grind.{common_steps}
-use Rattle.ac_util.specs.Commits.{IsSearchFor}
-use Rattle.ac_automaton.specs.Util.{Counts, No, Occurrence, pattern_of, Search, usize_max}
-use Rattle.ac_automaton.specs.Prelude.{AutomatonView, Cursor, place_of, plain_of, search_of, Work}
-use Rattle.ac_automaton.specs.Commits.{chain_at, reads_on}
-use Rattle.ac_automaton.specs.Cores.{MayTakeFrom, pending, TakesKnown}
-use Rattle.ac_automaton.specs.Onward.{IsCounted, IsOnward, IsRestBefore}
+use Rattle.ac_util.proofs.Prelude.{◌≡◌, ℕ, ◌+◌, ◌-◌, ◌<◌, ◌≤◌, Bool, true, List, [], length, slice_get, refl, sym, subst, arith, Option, None, Some, IfSome, MatchOption, common_steps}
+use Rattle.ac_automaton.specs.Prelude.{IsSearchFor, Counts, No, Occurrence, pattern_of, Search, usize_max, AutomatonView, Cursor, place_of, plain_of, search_of, Work, chain_at, reads_on, MayTakeFrom, pending, TakesKnown, IsCounted, IsOnward, IsRestBefore, ChainMatch, ChainRest}
 use Rattle.ac_automaton.proofs.OnwardEnds.{HasGiven}
-use Rattle.ac_automaton.specs.declared.automaton.commits.ChainMatch.{ChainMatch}
-use Rattle.ac_automaton.specs.declared.automaton.onward.ChainRest.{ChainRest}
 use Rattle.ac_automaton.proofs.PastGives.{goes-known, known-high, known-numbered, known-onward, known-within, next, onward, picks-known}
 use Rattle.ac_automaton.proofs.OnwardGives.{within-end}
 

@@ -1,15 +1,10 @@
 -- What the ascending order of the patterns says of their bytes at one depth.
-use Rattle.std.proofs.Common.{◌≡◌, ℕ, suc, ◌<◌, ◌≤◌, true, false, List, [], ◌∷◌, length, refl, sym, ◌∙◌, arith, Option, None, Some, nat_eq, slice_get, rules}
-use Rattle.std.specs.List.{starts_with}
+use Rattle.ac_util.proofs.Prelude.{◌≡◌, ℕ, suc, ◌<◌, ◌≤◌, true, false, List, [], ◌∷◌, length, refl, sym, ◌∙◌, arith, Option, None, Some, nat_eq, slice_get, rules, starts_with, MatchOrdering, is_gt, nat_cmp, ordering_then, and_parts, eqb-true, false≢true, common_steps}
+use Rattle.ac_automaton.specs.Prelude.{MatchKind, Keyed, IsOrder, key_at, byte_at}
 use Rattle.std.proofs.lemmas.Cmp.{ranked}
 use Rattle.std.specs.Cmp.Lexicographic.{slice_cmp}
 use Rattle.std.specs.declared.cmp.Ordering.{Ordering}
 use Rattle.std.specs.declared.cmp.Ordering.TheVariants.{Less, Equal, Greater}
-use Rattle.std.specs.Ordering.{MatchOrdering, is_gt, nat_cmp, ordering_then}
-use Rattle.std.proofs.lemmas.Bool.{and_parts, eqb-true, false≢true}
-use Rattle.std.proofs.lemmas.Grind.{common_steps}
-use Rattle.ac_util.specs.declared.search.MatchKind.{MatchKind}
-use Rattle.ac_automaton.specs.Sorted.{Keyed, IsOrder, key_at, byte_at}
 
 -- a byte as a number, where none comes before each
 abbrev pub rank : Option ℕ → ℕ

@@ -1,13 +1,9 @@
 -- Overlapping search by a state, and by an iterator: how it begins, and what a call leaves.
-use Rattle.std.proofs.Common.{◌≡◌, ℕ, zero, suc, drop, ◌<◌, ◌≤◌, List, [], ◌∷◌, length, inl, inr, refl, sym, subst, arith, Option, Some, None, ◌⊎◌, IfSome, MatchOption, max, slice_get, rules}
-use Rattle.std.proofs.Math.Seq.{drop-nil}
-use Rattle.std.proofs.lemmas.Grind.{common_steps}
-use Rattle.ac_automaton.specs.Util.{all, InputView, Built, item_at, MatchKind, No, Node, Occurrence, overlapping_iter_refusal, overlapping_refusal, place_after, Search, Span, Standard, start_refusal}
+use Rattle.ac_util.proofs.Prelude.{◌≡◌, ℕ, zero, suc, drop, ◌<◌, ◌≤◌, List, [], ◌∷◌, length, inl, inr, refl, sym, subst, arith, Option, Some, None, ◌⊎◌, IfSome, MatchOption, max, slice_get, rules, drop-nil, common_steps}
+use Rattle.ac_automaton.specs.Prelude.{all, InputView, Built, item_at, MatchKind, No, Node, Occurrence, overlapping_iter_refusal, overlapping_refusal, place_after, Search, Span, Standard, start_refusal, given_by, given_in, HasMoved, in_memory, IsListed, IsListing, IsPlaced, Lists, ListsNext, node, nothing_done, overlapping_by, OverlappingState, Reached, Scan, ScansTo, ScanText, search_through, Work, GivesNext}
 use Rattle.ac_util.proofs.ListingBeginning.{all-past_end, item-none, item-some}
 use Rattle.ac_util.proofs.Lists.{drop-slice_get}
 use Rattle.ac_util.proofs.Reached.{reached-alive}
-use Rattle.ac_automaton.specs.Prelude.{given_by, given_in, HasMoved, in_memory, IsListed, IsListing, IsPlaced, Lists, ListsNext, node, nothing_done, overlapping_by, OverlappingState, place_by, Reached, Scan, ScansTo, ScanText, search_through, Work}
-use Rattle.ac_automaton.specs.Overlaps.{GivesNext}
 use Rattle.ac_automaton.proofs.ListLoop.{arrived, arrives, given-arrived, listing-start, past-all}
 use Rattle.ac_automaton.proofs.ReadOn.{at-start, read-nothing, read-scanned, scans-nothing, scans-on}
 
@@ -64,7 +60,7 @@ module _ (s : Scan) (bytes : List ℕ) (span : Span) (start : ℕ) (starts : s.s
 -- what a call has given that went on from there
 pub gives-moved : (s : Scan) (t : ScanText) (state : OverlappingState) (here : Reached) (found : Option Occurrence)
     (new_reached : Reached)
-    → given_in s.listed (search_through s t) here ≡ place_by s.listed (search_through s t) state
+    → given_in s.listed (search_through s t) here ≡ given_by s.listed (search_through s t) state.reached
     → HasMoved s t here found new_reached
     → GivesNext s.stands s.listed s.built.kind (search_through s t) state
     (record { found = found; reached = Some new_reached })

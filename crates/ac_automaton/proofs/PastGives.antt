@@ -1,21 +1,11 @@
 -- What a leftmost walk gives that has read on past its matches: the pick of its node, or the next match of a chain.
-use Rattle.std.proofs.Common.{◌≡◌, ◌⊎◌, ℕ, ◌+◌, ◌-◌, ◌<◌, ◌≤◌, true, List, [], ◌∷◌, length, drop, map, slice_get, get_or, refl, ap, sym, ◌∙◌, subst, arith, Option, None, Some, option_map, inl, inr}
-use Rattle.std.proofs.lemmas.List.{drop_all, length-map}
-use Rattle.std.proofs.lemmas.Option.{slice_get_cases}
-use Rattle.ac_util.specs.Prelude.{outward, step}
-use Rattle.ac_util.specs.Commits.{IsPickIn, IsSearchFor, StandsAfter}
-use Rattle.ac_automaton.specs.Util.{Built, from, is_leftmost, MatchKind, No, Occurrence, Occurs, pattern_of, pick, plain, Search}
+use Rattle.ac_util.proofs.Prelude.{◌≡◌, ◌⊎◌, ℕ, ◌+◌, ◌-◌, ◌<◌, ◌≤◌, true, List, [], ◌∷◌, length, drop, map, slice_get, get_or, refl, ap, sym, ◌∙◌, subst, arith, Option, None, Some, option_map, inl, inr, drop_all, length-map, slice_get_cases}
+use Rattle.ac_automaton.specs.Prelude.{outward, step, IsPickIn, IsSearchFor, StandsAfter, Built, from, is_leftmost, MatchKind, No, Occurrence, Occurs, pattern_of, pick, plain, Search, AutomatonView, place_of, plain_of, chain_at, ending_in, reads_on, chain_of, IsGiven, pending, ChainMatch, ChainRest, Given}
 use Rattle.ac_util.proofs.Lists.{drop-slice_get}
 use Rattle.ac_util.proofs.Onward.{after-dead, after-given, after-last, after-none, byte_at, dead-picks, GivesFirst, given_by, node-within}
 use Rattle.ac_util.proofs.PickedWalks.{pick-some, walk-picks}
 use Rattle.ac_util.proofs.Picks.{same_occurrence}
 use Rattle.ac_util.proofs.Walks.{pick-Occurs}
-use Rattle.ac_automaton.specs.Prelude.{AutomatonView, place_of, plain_of}
-use Rattle.ac_automaton.specs.Commits.{chain_at, ending_in, reads_on}
-use Rattle.ac_automaton.specs.Cores.{chain_of, IsGiven, pending}
-use Rattle.ac_automaton.specs.declared.automaton.commits.ChainMatch.{ChainMatch}
-use Rattle.ac_automaton.specs.declared.automaton.onward.ChainRest.{ChainRest}
-use Rattle.ac_automaton.specs.declared.automaton.onward.Given.{Given}
 use Rattle.ac_automaton.proofs.Heads.{plain_length}
 use Rattle.ac_automaton.proofs.OnwardLists.{on-leftmost, on-some}
 

@@ -1,17 +1,12 @@
 -- The first bytes of a pattern as one number: how large it is, and that these numbers are in the order of the patterns.
-use Rattle.std.proofs.Common.{◌≡◌, ℕ, zero, suc, add-one, ◌+◌, ◌*◌, ◌^◌, ◌<◌, Bool, List, [], ◌∷◌, inl, inr, refl, sym, ap, ◌∙◌, arith, slice_index_or, rules}
+use Rattle.ac_util.proofs.Prelude.{◌≡◌, ℕ, zero, suc, add-one, ◌+◌, ◌*◌, ◌^◌, ◌<◌, Bool, List, [], ◌∷◌, inl, inr, refl, sym, ap, ◌∙◌, arith, slice_index_or, rules, nat_cmp, ordering_then, cases_lt, common_steps}
+use Rattle.ac_automaton.specs.Prelude.{plain, compared, compared_by_bytes, head_of, SortedPattern, IsHead}
 use Rattle.std.specs.Cmp.Lexicographic.{slice_cmp}
-use Rattle.std.specs.Ordering.{nat_cmp, ordering_then}
 use Rattle.std.specs.declared.cmp.Ordering.{Ordering}
 use Rattle.std.specs.declared.cmp.Ordering.TheVariants.{Less, Equal, Greater}
-use Rattle.std.proofs.lemmas.Bool.{cases_lt}
 use Rattle.std.proofs.lemmas.Cmp.{nat_list_cmp_total, ranked}
-use Rattle.std.proofs.lemmas.Grind.{common_steps}
 use Rattle.std.proofs.Math.Nat.{pow-suc}
-use Rattle.ac_automaton.specs.Util.{plain}
-use Rattle.ac_automaton.specs.Prelude.{compared, compared_by_bytes, head_of, SortedPattern}
 use Rattle.ac_automaton.proofs.ReadOn.{below_next}
-use Rattle.ac_automaton.specs.Sorted.{IsHead}
 
 -- the first n bytes of a string are bytes
 abbrev pub AreSmall : ℕ → List ℕ → Type 0

@@ -1,16 +1,11 @@
 -- Prefixes of strings: what a test of one looks at, and strings between others in order.
-use Rattle.std.proofs.Common.{◌≡◌, ◌≢◌, ℕ, zero, suc, ◌+◌, ◌<◌, ◌≤◌, true, false, ◌&&◌, List, [], ◌∷◌, ◌++◌, map, length, drop, get_or, inl, inr, refl, ap, sym, arith, Some, None, nat_eq, slice_get, rules}
-use Rattle.std.specs.List.{starts_with}
+use Rattle.ac_util.proofs.Prelude.{◌≡◌, ◌≢◌, ℕ, zero, suc, ◌+◌, ◌<◌, ◌≤◌, true, false, ◌&&◌, List, [], ◌∷◌, ◌++◌, map, length, drop, get_or, inl, inr, refl, ap, sym, arith, Some, None, nat_eq, slice_get, rules, starts_with, MatchOrdering, is_gt, is_lt, nat_cmp, ordering_then, and_from, and_parts, cases_lt, eq-eqb, eqb-true, false≢true, common_steps, slice_get-get_or, slice_get_past}
 use Rattle.std.specs.Cmp.Lexicographic.{slice_cmp}
-use Rattle.std.specs.Ordering.{MatchOrdering, is_gt, is_lt, nat_cmp, ordering_then}
 use Rattle.std.specs.declared.cmp.Ordering.{Ordering}
 use Rattle.std.specs.declared.cmp.Ordering.TheVariants.{Less, Equal, Greater}
-use Rattle.std.proofs.lemmas.Bool.{and_from, and_parts, cases_lt, eq-eqb, eqb-true, false≢true}
 use Rattle.std.proofs.lemmas.Cmp.{ranked}
-use Rattle.std.proofs.lemmas.Grind.{common_steps}
 use Rattle.ac_util.proofs.Prefixes.{starts_with-length, starts_with-equal}
 use Rattle.ac_automaton.proofs.Orders.{head-no_greater}
-use Rattle.std.proofs.lemmas.Option.{slice_get-get_or, slice_get_past}
 
 -- a test of a prefix compares the bytes at one place, and then those after it
 starts_with-step : (f : ℕ → ℕ) (w p : List ℕ) (k : ℕ) → k < length w → k < length p

@@ -1,22 +1,15 @@
 -- The patterns that begin with one string stand side by side: first those that are the string, then a run for
 -- each next byte.
-use Rattle.std.proofs.Common.{◌≡◌, ◌≢◌, ℕ, suc, ◌+◌, ◌-◌, ◌<◌, ◌≤◌, true, List, [], ◌∷◌, ◌++◌, length, inl, inr, refl, ap, sym, ◌∙◌, arith, Option, Some, None, get_or, nat_eq, slice_get, slice_range, rules}
+use Rattle.ac_util.proofs.Prelude.{◌≡◌, ◌≢◌, ℕ, suc, ◌+◌, ◌-◌, ◌<◌, ◌≤◌, true, List, [], ◌∷◌, ◌++◌, length, inl, inr, refl, ap, sym, ◌∙◌, arith, Option, Some, None, get_or, nat_eq, slice_get, slice_range, rules, starts_with, nat_cmp, ordering_reverse, cases_lt, length-map, slice_get-map, slice_get-get_or, common_steps}
+use Rattle.ac_automaton.specs.Prelude.{equal_to, is_node, MatchKind, participants, pattern_of, byte_at, IsOrder, IsRangeOf, key_at, Keyed, numbers}
 use Rattle.std.specs.Cmp.Lexicographic.{slice_cmp, nat_list_cmp_total}
-use Rattle.std.specs.List.{starts_with}
-use Rattle.std.specs.Ordering.{nat_cmp, ordering_reverse}
 use Rattle.std.specs.declared.cmp.Ordering.TheVariants.{Less, Greater}
-use Rattle.std.proofs.lemmas.Bool.{cases_lt}
-use Rattle.std.proofs.lemmas.List.{length-map}
-use Rattle.std.proofs.lemmas.Option.{slice_get-map, slice_get-get_or}
 use Rattle.std.proofs.lemmas.Slice.Eq.{bytes_eq-Decides}
-use Rattle.std.proofs.lemmas.Grind.{common_steps}
-use Rattle.ac_automaton.specs.Util.{equal_to, is_node, MatchKind, participants, pattern_of}
 use Rattle.ac_util.proofs.Prefixes.{starts_with-itself, starts_with-front, list_any-from_IsIn}
 use Rattle.ac_util.proofs.LimitLemmas.{All-slice_get}
 use Rattle.ac_util.proofs.Lists.{IsIn, IsIn-filter, IsIn-from_filter, IsOrdered, IsOrdered-unique, Contains-from_IsIn, IsIn-from_Contains, nil-from_none, none-from_nil}
 use Rattle.ac_util.proofs.NodeCount.{any_passes}
 use Rattle.ac_util.proofs.Participants.{equal_to-ordered}
-use Rattle.ac_automaton.specs.Prelude.{byte_at, IsOrder, IsRangeOf, key_at, Keyed, numbers}
 use Rattle.ac_automaton.proofs.Prefixes.{ended, starts_with-ended, starts_with-last, starts_with-push}
 use Rattle.ac_automaton.proofs.Orders.{rank, byte_at-ascends}
 use Rattle.ac_automaton.proofs.Places.{get-same, get-range, get-from_range, place-of, IsIn-place, IsOrdered-places}

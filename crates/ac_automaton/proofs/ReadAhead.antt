@@ -1,10 +1,6 @@
 -- A scan that reads on in a text, up to a match or into the dead state.
-use Rattle.std.proofs.Common.{◌≡◌, ◌≢◌, ◌⊎◌, ℕ, zero, suc, ◌+◌, ◌-◌, ◌*◌, ◌<◌, ◌≤◌, true, List, [], length, inl, inr, subst, sym, refl, ap, ◌∙◌, arith, Option, None, Some, IfSome, slice_index}
-use Rattle.std.proofs.lemmas.Bool.{cases_lt}
-use Rattle.ac_automaton.specs.Util.{Counts, credit, Node, Taped}
-use Rattle.ac_automaton.specs.Prelude.{Cursor, IsAlive, matches_of, MayAdvance, most_looks, node, PassesNoMatch, Scan, ScannerView, ScansTo, ScanText, step_of, work_of}
-use Rattle.ac_automaton.specs.Reads.{Comes, entered, HasScanned, hand_of, in_hand, led, MayRead, Point, point, read_to, ReadsFurther, ReadsOn, tried, worth, Advances, at}
-use Rattle.ac_automaton.specs.declared.automaton.scan.Dead.{Dead}
+use Rattle.ac_util.proofs.Prelude.{◌≡◌, ◌≢◌, ◌⊎◌, ℕ, zero, suc, ◌+◌, ◌-◌, ◌*◌, ◌<◌, ◌≤◌, true, List, [], length, inl, inr, subst, sym, refl, ap, ◌∙◌, arith, Option, None, Some, IfSome, slice_index, cases_lt}
+use Rattle.ac_automaton.specs.Prelude.{Counts, credit, Node, Taped, Cursor, IsAlive, matches_of, MayAdvance, most_looks, node, PassesNoMatch, Scan, ScannerView, ScansTo, ScanText, step_of, work_of, Comes, entered, HasScanned, hand_of, in_hand, led, MayRead, Point, point, read_to, ReadsFurther, ReadsOn, tried, worth, Advances, at, Dead}
 use Rattle.ac_automaton.proofs.Led.{led-byte, led-dead, led-none}
 use Rattle.ac_automaton.proofs.Looks.{credit-dead, step-within}
 use Rattle.ac_automaton.proofs.ReadOn.{node-step}

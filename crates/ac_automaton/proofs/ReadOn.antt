@@ -1,13 +1,10 @@
 -- A scan of a text: where its automaton stands with one byte more, what it has read and looked at, and that
 -- each look is paid for.
-use Rattle.std.proofs.Common.{◌≡◌, ℕ, ◌+◌, ◌-◌, ◌*◌, ◌<◌, ◌≤◌, [], length, slice_index, inl, inr, ap, subst, ◌∙◌, arith, Bool, Some, rules}
-use Rattle.std.proofs.lemmas.Bool.{cases_lt}
-use Rattle.std.proofs.lemmas.Grind.{common_steps}
-use Rattle.ac_automaton.specs.Util.{Counts, credit, may_skip, Search}
+use Rattle.ac_util.proofs.Prelude.{◌≡◌, ℕ, ◌+◌, ◌-◌, ◌*◌, ◌<◌, ◌≤◌, [], length, slice_index, inl, inr, ap, subst, ◌∙◌, arith, Bool, Some, rules, cases_lt, common_steps}
+use Rattle.ac_automaton.specs.Prelude.{Counts, credit, may_skip, Search, FitsIn, Grows, HasRead, IsAlive, IsAt, most_looks, node, Scan, ScansTo, ScanText, search_through, step_of, Work}
 use Rattle.ac_util.proofs.Failures.{depth-reached}
 use Rattle.ac_util.proofs.OneLonger.{step-longer}
 use Rattle.ac_util.proofs.Spans.{text_length}
-use Rattle.ac_automaton.specs.Prelude.{FitsIn, Grows, HasRead, IsAlive, IsAt, most_looks, node, Scan, ScansTo, ScanText, search_through, step_of, Work}
 
 -- what holds as far as n and one place on holds as far as there
 pub below_next : (n : ℕ) (P : ℕ → Type 0) → ((k : ℕ) → k < n → P k) → P n → (k : ℕ) → k < n + 1 → P k

@@ -1,15 +1,8 @@
 -- What the readers of a trie say of a state that they have read.
-use Rattle.std.proofs.Common.{◌≡◌, ◌≢◌, ℕ, ◌+◌, ◌-◌, ◌<◌, ◌≤◌, Bool, true, List, length, length-drop, drop, filter, get_or, refl, ◌∙◌, subst, arith, Some, None, slice_get, slice_range, Contains, ◌↔◌, rules}
-use Rattle.std.specs.List.{range_with_len}
-use Rattle.std.specs.List.Sorted.{IsStrictlyIncreasing}
-use Rattle.std.proofs.lemmas.Bool.{false≢true}
-use Rattle.std.proofs.lemmas.List.{length-map, length-take-le}
+use Rattle.ac_util.proofs.Prelude.{◌≡◌, ◌≢◌, ℕ, ◌+◌, ◌-◌, ◌<◌, ◌≤◌, Bool, true, List, length, length-drop, drop, filter, get_or, refl, ◌∙◌, subst, arith, Some, None, slice_get, slice_range, Contains, ◌↔◌, rules, range_with_len, IsStrictlyIncreasing, false≢true, length-map, length-take-le, slice_get-get_or, slice_get-map, slice_get_within, common_steps}
+use Rattle.ac_automaton.specs.Prelude.{Node, state_count, HasOwn, IsOwn, IsTrie, leads_on, meaning_of, transition_bytes_of, transition_target, plain_of, Represents, State, Transition, transition_bytes, transitions_of, Trie}
 use Rattle.std.proofs.lemmas.List.Kept.{AllPairs-from_increasing}
-use Rattle.std.proofs.lemmas.Option.{slice_get-get_or, slice_get-map, slice_get_within}
-use Rattle.std.proofs.lemmas.Grind.{common_steps}
-use Rattle.ac_automaton.specs.Util.{Node, state_count}
 use Rattle.ac_util.proofs.Lists.{Contains-from_IsIn, IsIn, IsIn-filter, IsIn-from_Contains, IsIn-from_filter, IsIn-from_map, IsIn-range, IsOrdered-filter, IsOrdered-range, IsOrdered-unique}
-use Rattle.ac_automaton.specs.Prelude.{HasOwn, IsOwn, IsTrie, leads_on, meaning_of, transition_bytes_of, transition_target, plain_of, Represents, State, Transition, transition_bytes, transitions_of, Trie}
 use Rattle.ac_automaton.proofs.Counting.{IsOrdered-from_AllPairs}
 use Rattle.ac_automaton.proofs.Follows.{leads-on, represented}
 use Rattle.ac_automaton.proofs.Places.{get-range, place-of}

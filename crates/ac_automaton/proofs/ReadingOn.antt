@@ -1,12 +1,7 @@
 -- A scan that reads on: by nothing, and by one piece after another.
-use Rattle.std.proofs.Common.{◌≡◌, ◌≢◌, ◌⊎◌, ℕ, ◌+◌, ◌-◌, ◌*◌, ◌<◌, ◌≤◌, true, false, List, [], inl, inr, refl, ap, sym, ◌∙◌, subst, arith, Option, None, Some, IfSome, length, slice_index}
+use Rattle.ac_util.proofs.Prelude.{◌≡◌, ◌≢◌, ◌⊎◌, ℕ, ◌+◌, ◌-◌, ◌*◌, ◌<◌, ◌≤◌, true, false, List, [], inl, inr, refl, ap, sym, ◌∙◌, subst, arith, Option, None, Some, IfSome, length, slice_index, cases_lt, false≢true, common_steps}
+use Rattle.ac_automaton.specs.Prelude.{Node, Cursor, Lists, matches_of, most_looks, Scan, step_of, Work, Comes, HasScanned, hand_of, in_hand, IsReading, led, MayRead, Point, read_to, ReadsEnough, ReadsFurther, ReadsOn, ReadsToStop, StopsAt, tried, worth, Dead}
 use Rattle.std.specs.Option.{is_some}
-use Rattle.std.proofs.lemmas.Bool.{cases_lt, false≢true}
-use Rattle.std.proofs.lemmas.Grind.{common_steps}
-use Rattle.ac_automaton.specs.Util.{Node}
-use Rattle.ac_automaton.specs.Prelude.{Cursor, Lists, matches_of, most_looks, Scan, step_of, Work}
-use Rattle.ac_automaton.specs.Reads.{Comes, HasScanned, hand_of, in_hand, IsReading, led, MayRead, Point, read_to, ReadsEnough, ReadsFurther, ReadsOn, ReadsToStop, StopsAt, tried, worth}
-use Rattle.ac_automaton.specs.declared.automaton.scan.Dead.{Dead}
 use Rattle.ac_automaton.proofs.Heads.{nil-from_not, nothing-listed}
 use Rattle.ac_automaton.proofs.Led.{led-more, led-none}
 

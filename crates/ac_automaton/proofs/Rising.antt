@@ -1,12 +1,7 @@
 -- Transitions whose bytes ascend: how far from the first one a byte can stand, and where there is no transition by it.
-use Rattle.std.proofs.lemmas.Grind.{common_steps, get_or_default_zero}
-use Rattle.std.proofs.Common.{◌≡◌, ℕ, zero, suc, ◌+◌, ◌<◌, ◌≤◌, List, [], ◌∷◌, length, get_or, refl, arith, rules, Contains, Some, slice_get}
-use Rattle.std.specs.List.Sorted.{IsStrictlyIncreasing}
-use Rattle.std.proofs.lemmas.Bool.{cases_lt}
-use Rattle.std.proofs.lemmas.List.{length-map}
-use Rattle.std.proofs.lemmas.List.Kept.{AllPairs-from_increasing}
-use Rattle.std.proofs.lemmas.Option.{slice_get-get_or}
+use Rattle.ac_util.proofs.Prelude.{common_steps, get_or_default_zero, ◌≡◌, ℕ, zero, suc, ◌+◌, ◌<◌, ◌≤◌, List, [], ◌∷◌, length, get_or, refl, arith, rules, Contains, Some, slice_get, IsStrictlyIncreasing, cases_lt, length-map, slice_get-get_or}
 use Rattle.ac_automaton.specs.Prelude.{Transition, transition_bytes}
+use Rattle.std.proofs.lemmas.List.Kept.{AllPairs-from_increasing}
 
 -- a number is at least as far above the first as it stands after it
 pub rises-by : (xs : List ℕ) → IsStrictlyIncreasing xs → (k : ℕ) → k < length xs → get_or xs 0 0 + k ≤ get_or xs k 0

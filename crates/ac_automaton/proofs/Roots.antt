@@ -1,6 +1,5 @@
 -- A root table has an entry more for each byte that is followed from the start.
-use Rattle.std.proofs.Common.{◌≡◌, ℕ, ◌+◌, ◌<◌, List, [], ◌∷◌, ◌++◌, length, arith, slice_index}
-use Rattle.std.proofs.lemmas.Grind.{common_steps}
+use Rattle.ac_util.proofs.Prelude.{◌≡◌, ℕ, ◌+◌, ◌<◌, List, [], ◌∷◌, ◌++◌, length, arith, slice_index, common_steps}
 use Rattle.ac_automaton.specs.Prelude.{IsRootEntry, State, Transition}
 
 -- the entries below n and one for n are those below n + 1

@@ -1,19 +1,13 @@
 -- Bytes with which no pattern begins don't lead away from the start, where nothing is found either if no pattern is
 -- empty.
-use Rattle.std.proofs.Common.{rules, ◌≡◌, ℕ, zero, suc, ◌+◌, ◌-◌, ◌<◌, ◌≤◌, Bool, true, false, List, [], ◌∷◌, map, refl, ap, sym, ◌∙◌, subst, arith, Option, Some, None, nat_eq, slice_index}
-use Rattle.std.specs.List.{list_any, starts_with}
+use Rattle.ac_util.proofs.Prelude.{rules, ◌≡◌, ℕ, zero, suc, ◌+◌, ◌-◌, ◌<◌, ◌≤◌, Bool, true, false, List, [], ◌∷◌, map, refl, ap, sym, ◌∙◌, subst, arith, Option, Some, None, nat_eq, slice_index, list_any, starts_with, or_right, false≢true, false_from_ne_true}
+use Rattle.ac_automaton.specs.Prelude.{Anchored, begins_with, begins_with_pattern, BeginWith, Built, Counts, is_empty, is_one_of, may_skip, No, Node, one_more_call, pattern_of, plain, plain_byte, matches_of, plain_of, Scan, search_of, SkipsTo, step_of, Comes, HasScanned, in_hand, IsAtStart, led, MayRead, Point, read_to, ReadsFurther, ReadsOn, worth, Dead}
 use Rattle.std.specs.Option.{is_some}
-use Rattle.std.proofs.lemmas.Bool.{or_right, false≢true, false_from_ne_true}
-use Rattle.ac_util.specs.declared.search.Anchored.{Anchored}
-use Rattle.ac_automaton.specs.Util.{begins_with, begins_with_pattern, BeginWith, Built, Counts, is_empty, is_one_of, may_skip, No, Node, one_more_call, pattern_of, plain, plain_byte}
 use Rattle.memchr.specs.Find.{Nowhere, Passes}
 use Rattle.ac_util.proofs.Found.{matches-nil}
 use Rattle.ac_util.proofs.NodeCount.{any_passes}
 use Rattle.ac_util.proofs.Participants.{equal_to-none_begins}
 use Rattle.ac_util.proofs.Reached.{step-nil}
-use Rattle.ac_automaton.specs.Prelude.{matches_of, plain_of, Scan, search_of, SkipsTo, step_of}
-use Rattle.ac_automaton.specs.Reads.{Comes, HasScanned, in_hand, IsAtStart, led, MayRead, Point, read_to, ReadsFurther, ReadsOn, worth}
-use Rattle.ac_automaton.specs.declared.automaton.scan.Dead.{Dead}
 use Rattle.ac_automaton.proofs.Led.{led-byte, led-none}
 use Rattle.ac_automaton.proofs.ReadingOn.{comes-then, nothing-scanned}
 use Rattle.ac_automaton.proofs.ReadOn.{grows-trans}

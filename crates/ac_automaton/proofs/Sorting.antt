@@ -1,34 +1,22 @@
 -- The patterns listed by number, and what a sort of them gives.
-use Rattle.std.proofs.Common.{◌≡◌, ◌≢◌, ◌↔◌, ℕ, zero, suc, ◌+◌, ◌<◌, Bool, true, false, List, [], ◌∷◌, ◌++◌, map, length, take, get_or, inl, refl, ap, sym, ◌∙◌, subst, arith, Some, add-one, nat_eq, slice_get, filter, All, AllPairs, Contains, rules}
-use Rattle.std.specs.List.{range_with_len}
+use Rattle.ac_util.proofs.Prelude.{◌≡◌, ◌≢◌, ◌↔◌, ℕ, zero, suc, ◌+◌, ◌<◌, Bool, true, false, List, [], ◌∷◌, ◌++◌, map, length, take, get_or, inl, refl, ap, sym, ◌∙◌, subst, arith, Some, add-one, nat_eq, slice_get, filter, All, AllPairs, Contains, rules, range_with_len, IsPermutation, IsSortedBy, IsSortedByClosure, is_gt, is_lt, nat_cmp, ordering_reverse, ordering_then, false≢true, Decides-eqb, get_or-map, length-map, map-append, take_more, All-map, All-push, All-same, get_or-range_with_len, length-range_with_len, slice_get_within, get_or_from_slice_get, common_steps}
+use Rattle.ac_automaton.specs.Prelude.{participants, pattern_of, plain, Standard, AreListed, compared, compared_by_bytes, IsOrder, Keyed, keyed, keyed_one, numbers, Precedes, SortedPattern, IsHead}
 use Rattle.std.specs.Fn.{Called}
-use Rattle.std.specs.List.Sorted.{IsPermutation, IsSortedBy, IsSortedByClosure}
 use Rattle.std.specs.Cmp.{IsTotalOrder}
 use Rattle.std.specs.Cmp.Lexicographic.{slice_cmp}
-use Rattle.std.specs.Ordering.{is_gt, is_lt, nat_cmp, ordering_reverse, ordering_then}
 use Rattle.std.specs.declared.cmp.Ordering.{Ordering}
 use Rattle.std.specs.declared.cmp.Ordering.TheVariants.{Less, Equal, Greater}
-use Rattle.std.proofs.lemmas.Bool.{false≢true}
-use Rattle.std.proofs.lemmas.Bool.Decides.{Decides-eqb}
 use Rattle.std.proofs.lemmas.Cmp.{ranked, nat_cmp_total, nat_eq_equiv, nat_list_cmp_total, on_total, then_total}
 use Rattle.std.proofs.lemmas.Fn.{always_returns_same}
-use Rattle.std.proofs.lemmas.List.{get_or-map, length-map, map-append, take_more}
-use Rattle.std.proofs.lemmas.List.Elements.{All-map, All-push, All-same}
-use Rattle.std.proofs.lemmas.List.FromFn.{get_or-range_with_len, length-range_with_len}
 use Rattle.std.proofs.lemmas.List.Sorted.{All-permutation, Contains-permutation, IsPermutation-map, IsPermutation-sym, ranks_by, sorted_far}
 use Rattle.std.proofs.lemmas.Map.Keys.{IsDistinct-IsPermutation}
 use Rattle.std.proofs.lemmas.Map.Lookups.{exact_bytes}
 use Rattle.std.proofs.lemmas.Map.Made.{AllPairs-from_IsDistinct, IsDistinct-from_AllPairs}
-use Rattle.std.proofs.lemmas.Option.{slice_get_within, get_or_from_slice_get}
-use Rattle.std.proofs.lemmas.Grind.{common_steps}
 use denote.Param.Members.{Mut}
 use denote.Ref.{Bor}
-use Rattle.ac_automaton.specs.Util.{participants, pattern_of, plain, Standard}
 use Rattle.ac_util.proofs.Lists.{IsOrdered, IsOrdered-map, IsOrdered-range, AllPairs-from_IsOrdered}
-use Rattle.ac_automaton.specs.Prelude.{AreListed, compared, compared_by_bytes, IsOrder, Keyed, keyed, keyed_one, numbers, Precedes, SortedPattern}
 use Rattle.ac_automaton.proofs.Counting.{IsOrdered-from_AllPairs}
 use Rattle.ac_automaton.proofs.PatternHeads.{compared-by_bytes}
-use Rattle.ac_automaton.specs.Sorted.{IsHead}
 
 -- the view has the number of the pattern that is stored at a place
 pub sorted_number : (ignores_case : Bool) (sorted : List SortedPattern) (place : ℕ) (m : SortedPattern)

@@ -1,20 +1,12 @@
 -- The stack of the kept prefixes of a pattern, as all patterns are gone through in order.
-use Rattle.std.proofs.Common.{◌≡◌, ◌≢◌, ℕ, ◌+◌, ◌-◌, ◌<◌, ◌≤◌, true, false, List, [], ◌∷◌, ◌++◌, length, take, get_or, ◌⊎◌, inl, inr, refl, ap, sym, ◌∙◌, subst, arith, length-take, nat_eq, AllPairs, rules}
-use Rattle.std.specs.List.{range_with_len, starts_with}
+use Rattle.ac_util.proofs.Prelude.{◌≡◌, ◌≢◌, ℕ, ◌+◌, ◌-◌, ◌<◌, ◌≤◌, true, false, List, [], ◌∷◌, ◌++◌, length, take, get_or, ◌⊎◌, inl, inr, refl, ap, sym, ◌∙◌, subst, arith, length-take, nat_eq, AllPairs, rules, range_with_len, starts_with, is_gt, is_lt, nat_cmp, cases_lt, false≢true, not_from_true, get_or-take, All-contains, common_steps}
+use Rattle.ac_automaton.specs.Prelude.{Prefixes, LeftmostFirst, participants, participates, pattern_of, Standard, Keyed, Precedes, IsOrder, key_at, numbers}
 use Rattle.std.specs.Cmp.Lexicographic.{slice_cmp}
-use Rattle.std.specs.Ordering.{is_gt, is_lt, nat_cmp}
-use Rattle.std.proofs.lemmas.Bool.{cases_lt, false≢true, not_from_true}
 use Rattle.std.proofs.lemmas.Cmp.{nat_list_cmp_total, tied_itself}
-use Rattle.std.proofs.lemmas.List.{get_or-take}
-use Rattle.std.proofs.lemmas.List.Elements.{All-contains}
 use Rattle.std.proofs.lemmas.List.Quantifiers.{all_pairs_push}
-use Rattle.std.proofs.lemmas.Grind.{common_steps}
-use Rattle.ac_util.specs.Commits.{Prefixes}
-use Rattle.ac_automaton.specs.Util.{LeftmostFirst, participants, participates, pattern_of, Standard}
 use Rattle.ac_util.proofs.Lists.{IsIn, IsIn-at, IsIn-map, IsIn-from_map, IsIn-filter, IsIn-from_filter, IsIn-range, IsIn-from_range, IsIn-append_cases, IsIn-append_left, IsIn-append_right, Contains-from_IsIn, IsIn-from_Contains}
 use Rattle.ac_util.proofs.Prefixes.{starts_with-itself}
 use Rattle.ac_util.proofs.Participants.{IsLeader, begins-before, begins-from_Prefixes, leader, leader-least, leader-takes_part}
-use Rattle.ac_automaton.specs.Sorted.{Keyed, Precedes, IsOrder, key_at, numbers}
 use Rattle.ac_automaton.proofs.Places.{place-of, place-read, place-take, read-place, IsIn-take, IsIn-from_take}
 use Rattle.ac_automaton.proofs.Prefixes.{front-between, front-no_less}
 

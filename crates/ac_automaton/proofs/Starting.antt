@@ -1,12 +1,9 @@
 -- The start of a trie: all patterns begin with the empty string.
-use Rattle.std.proofs.Common.{◌≡◌, ◌≢◌, ℕ, ◌<◌, ◌≤◌, Bool, true, false, ◌&&◌, List, [], ◌∷◌, length, inl, inr, refl, ap, ◌∙◌, arith, Some, None, bytes_eq, slice_get, rules}
-use Rattle.std.proofs.lemmas.Bool.{cases_Bool, cases_lt, cond-true, cond-false, false_from_ne_true}
-use Rattle.std.proofs.lemmas.Grind.{common_steps}
-use Rattle.ac_automaton.specs.Util.{begins_with_pattern, equal_to, is_leftmost, MatchKind, participants, pattern_of}
+use Rattle.ac_util.proofs.Prelude.{◌≡◌, ◌≢◌, ℕ, ◌<◌, ◌≤◌, Bool, true, false, ◌&&◌, List, [], ◌∷◌, length, inl, inr, refl, ap, ◌∙◌, arith, Some, None, bytes_eq, slice_get, rules, cases_Bool, cases_lt, cond-true, cond-false, false_from_ne_true, common_steps}
+use Rattle.ac_automaton.specs.Prelude.{begins_with_pattern, equal_to, is_leftmost, MatchKind, participants, pattern_of, ANCHORED_START, byte_at, DEAD, IsOrder, IsRangeOf, Keyed, fallback, QueuedState, START, Waits}
 use Rattle.ac_util.proofs.Prefixes.{starts_with-length}
 use Rattle.ac_util.proofs.Lists.{IsIn-from_filter, nil-from_none, none-from_nil}
 use Rattle.ac_util.proofs.Participants.{IsIn-equal_to, equal_to-none_begins, leader, leader-takes_part}
-use Rattle.ac_automaton.specs.Prelude.{ANCHORED_START, byte_at, DEAD, IsOrder, IsRangeOf, Keyed, fallback, QueuedState, START, Waits}
 use Rattle.ac_automaton.proofs.Ranges.{equal_to-some, equal_to-none, place-at}
 
 -- a string without bytes is empty

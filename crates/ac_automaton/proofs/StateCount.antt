@@ -1,14 +1,10 @@
 -- A trie has as many states as there are nodes: each node has one state, and a build is refused only where
 -- there are too many.
-use Rattle.std.proofs.Common.{◌≡◌, ◌≢◌, ℕ, zero, suc, ◌+◌, ◌<◌, ◌≤◌, Bool, true, List, [], ◌∷◌, ◌++◌, map, length, get_or, inl, inr, refl, ap, sym, ◌∙◌, subst, arith, Some, None, slice_get, Contains, rules}
-use Rattle.std.proofs.lemmas.List.{length-map, length_push}
-use Rattle.std.proofs.lemmas.Option.{slice_get-get_or, slice_get-map, slice_get_within}
-use Rattle.std.proofs.lemmas.Grind.{common_steps}
-use Rattle.ac_automaton.specs.Util.{BuildError, GREATEST, inner_nodes, is_node, MatchKind, Node, plain_byte, state_count, step, Yes}
+use Rattle.ac_util.proofs.Prelude.{◌≡◌, ◌≢◌, ℕ, zero, suc, ◌+◌, ◌<◌, ◌≤◌, Bool, true, List, [], ◌∷◌, ◌++◌, map, length, get_or, inl, inr, refl, ap, sym, ◌∙◌, subst, arith, Some, None, slice_get, Contains, rules, length-map, length_push, slice_get-get_or, slice_get-map, slice_get_within, common_steps}
+use Rattle.ac_automaton.specs.Prelude.{BuildError, GREATEST, inner_nodes, is_node, MatchKind, Node, plain_byte, state_count, step, Yes, AreStates, byte_at, FIRST_INNER, grown_view, IsGrown, IsNotPushed, IsNumberOf, IsOrder, IsRangeOf, IsRefused, Keyed, fallback, nodes_of, NumbersNodes, QueuedState, Represents, START, State, state_at, too_many_states, Transition, transition_bytes, transitions_of, word}
 use Rattle.ac_util.proofs.Lists.{IsIn, IsOrdered, IsIn-from_Contains, IsIn-from_map, Contains-from_IsIn}
 use Rattle.ac_util.proofs.NodeCount.{inner_nodes-has, inner_nodes-only, inner_nodes-apart}
 use Rattle.ac_util.proofs.Participants.{is_node-front}
-use Rattle.ac_automaton.specs.Prelude.{AreStates, byte_at, FIRST_INNER, grown_view, IsGrown, IsNotPushed, IsNumberOf, IsOrder, IsRangeOf, IsRefused, Keyed, fallback, nodes_of, NumbersNodes, QueuedState, Represents, START, State, state_at, too_many_states, Transition, transition_bytes, transitions_of, word}
 use Rattle.ac_automaton.proofs.Branched.{transition_target-is, some_node}
 use Rattle.ac_automaton.proofs.Branching.{IsBranching, IsRun, Site, child-range, string, word-length}
 use Rattle.ac_automaton.proofs.Child.{fresh}

@@ -1,11 +1,9 @@
 -- How a step and the looks that it takes follow from what a state knows: the bytes that lead on, and where a
 -- search goes on by any other byte.
-use Rattle.std.proofs.Common.{◌≡◌, ◌≢◌, ℕ, zero, suc, ◌+◌, ◌≤◌, ◌<◌, Bool, true, false, cond, List, [], ◌∷◌, ◌++◌, length, refl, ap, arith, Some, None, rules}
-use Rattle.std.proofs.lemmas.Grind.{common_steps}
-use Rattle.ac_automaton.specs.Util.{depth, failure, is_node, looks, looks_within, MatchKind, No, Node, step, Yes}
+use Rattle.ac_util.proofs.Prelude.{◌≡◌, ◌≢◌, ℕ, zero, suc, ◌+◌, ◌≤◌, ◌<◌, Bool, true, false, cond, List, [], ◌∷◌, ◌++◌, length, refl, ap, arith, Some, None, rules, common_steps}
+use Rattle.ac_automaton.specs.Prelude.{depth, failure, is_node, looks, looks_within, MatchKind, No, Node, step, Yes, fallback}
 use Rattle.ac_util.proofs.Reached.{stops, reached-nil, reached-cons, step-all}
 use Rattle.ac_util.proofs.Failures.{step-failure, depth-failure}
-use Rattle.ac_automaton.specs.Tries.{fallback}
 
 module _ (kind : MatchKind) (patterns : List (List ℕ)) where
   -- where an anchored search goes on from a node

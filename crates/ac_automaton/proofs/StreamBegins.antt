@@ -1,11 +1,8 @@
 -- The search of a stream of which nothing was read: nothing is picked, found or settled yet.
-use Rattle.std.proofs.Common.{◌≡◌, ℕ, ◌-◌, ◌<◌, Bool, List, [], length, max, inl, refl, arith, Some, None, if◌then◌else◌, not, rules, false, Option}
-use Rattle.std.proofs.lemmas.Grind.{common_steps}
-use Rattle.ac_automaton.specs.Util.{buffer_len, Built, is_leftmost, IsSettledBy, longest_len, Node, pick, stream_refusal, stream_result, has_empty, MatchKind, Occurrence, Search}
+use Rattle.ac_util.proofs.Prelude.{◌≡◌, ℕ, ◌-◌, ◌<◌, Bool, List, [], length, max, inl, refl, arith, Some, None, if◌then◌else◌, not, rules, false, Option, common_steps}
+use Rattle.ac_automaton.specs.Prelude.{buffer_len, Built, is_leftmost, IsSettledBy, longest_len, Node, pick, stream_refusal, stream_result, has_empty, MatchKind, Occurrence, Search, IsStreaming, most_kept, plain_of, initial_stream, stream_from, ChainMatch}
 use Rattle.ac_util.proofs.Walks.{next-none, walk_after-None, pick-Occurs}
-use Rattle.ac_automaton.specs.Prelude.{IsStreaming, most_kept, plain_of, initial_stream, stream_from}
 use Rattle.ac_util.proofs.Onward.{after-start}
-use Rattle.ac_automaton.specs.declared.automaton.commits.ChainMatch.{ChainMatch}
 use Rattle.ac_automaton.proofs.StreamRefusals.{allowed-some}
 use Rattle.ac_util.proofs.Shortest.{none-empty}
 

@@ -1,10 +1,6 @@
 -- The next match of a stream, or that there is none, once its end was met.
-use Rattle.std.proofs.Common.{◌≡◌, ℕ, ◌≤◌, Bool, List, [], ◌++◌, length, sym, subst, arith, Option, Some, None, Result, Ok, Err}
-use Rattle.std.proofs.lemmas.Grind.{common_steps}
-use Rattle.ac_automaton.specs.Util.{Occurrence, Reading, ReadsAll, ReadsSome, Standard, stream_result, StreamError, usize_max}
-use Rattle.ac_automaton.specs.Prelude.{Ended, EndsNow, Failed, GivesMatch, GivesNone, GoesOnBy, HasGivenLast, HasGivenSettled, KeepsGiven, MeetsEnd, Open, Phase, Streaming, Streams}
-use Rattle.ac_automaton.specs.Streams.{GivesNextMatch}
-use Rattle.std.specs.Prelude.{MatchOption, MatchResult}
+use Rattle.ac_util.proofs.Prelude.{◌≡◌, ℕ, ◌≤◌, Bool, List, [], ◌++◌, length, sym, subst, arith, Option, Some, None, Result, Ok, Err, common_steps, MatchOption, MatchResult}
+use Rattle.ac_automaton.specs.Prelude.{Occurrence, Reading, ReadsAll, ReadsSome, Standard, stream_result, StreamError, usize_max, Ended, EndsNow, Failed, GivesMatch, GivesNone, GoesOnBy, HasGivenLast, HasGivenSettled, KeepsGiven, MeetsEnd, Open, Phase, Streaming, Streams, GivesNextMatch}
 
 -- the end was met after some bytes more, or before; under Standard all matches were given before it was
 module _ (ends : Bool) (old between new : Streaming) (reader new_reader : Reading) (more : List ℕ)

@@ -1,10 +1,7 @@
 -- What of a stream was exchanged: once more bytes have come, before any exchange, once all that is settled was, and where it fails
 -- further on.
-use Rattle.std.proofs.Common.{◌≡◌, ℕ, ◌≤◌, List, [], ◌++◌, length, take, drop, ap, sym, subst, ◌∙◌, arith, Some, None, Result, Ok, Err, MatchResult, OnOk, slice_range}
-use Rattle.std.proofs.lemmas.List.{append-nil, drop_all}
-use Rattle.std.proofs.lemmas.Grind.{common_steps}
-use Rattle.ac_automaton.specs.Util.{IsNear, Occurrence, Replacing, StreamError, StartFrom}
-use Rattle.ac_automaton.specs.Prelude.{error_in, FailsToExchange, HasExchanged, HasGivenSettled, HasReplaced, IsSettledIn, matches_so_far, Passing, PassesPiece, Steps, Streaming}
+use Rattle.ac_util.proofs.Prelude.{◌≡◌, ℕ, ◌≤◌, List, [], ◌++◌, length, take, drop, ap, sym, subst, ◌∙◌, arith, Some, None, Result, Ok, Err, MatchResult, OnOk, slice_range, append-nil, drop_all, common_steps}
+use Rattle.ac_automaton.specs.Prelude.{IsNear, Occurrence, Replacing, StreamError, StartFrom, error_in, FailsToExchange, HasExchanged, HasGivenSettled, HasReplaced, IsSettledIn, matches_so_far, Passing, PassesPiece, Steps, Streaming}
 use Rattle.ac_automaton.proofs.Gathering.{piece-flushed, piece-none}
 use Rattle.ac_automaton.proofs.StreamExchanging.{replaced-settled, settled-fails}
 

@@ -1,10 +1,7 @@
 -- The replacement of a stream: what was passed on so far and one piece more, one exchange more, and where it fails.
-use Rattle.std.proofs.Common.{◌≡◌, ℕ, zero, suc, ◌+◌, ◌-◌, ◌<◌, ◌≤◌, List, [], ◌∷◌, ◌++◌, length, take, drop, inl, inr, refl, ap, sym, subst, ◌∙◌, arith, Option, Some, None, Result, Ok, Err, slice_get, slice_range, rules}
-use Rattle.std.proofs.lemmas.List.{append-nil, append_assoc, drop-append-le, drop-drop, drop-take, take-take}
-use Rattle.std.proofs.lemmas.Grind.{common_steps}
-use Rattle.ac_automaton.specs.Util.{Occurrence, Replacing, StreamError, Turn, StartFrom}
+use Rattle.ac_util.proofs.Prelude.{◌≡◌, ℕ, zero, suc, ◌+◌, ◌-◌, ◌<◌, ◌≤◌, List, [], ◌∷◌, ◌++◌, length, take, drop, inl, inr, refl, ap, sym, subst, ◌∙◌, arith, Option, Some, None, Result, Ok, Err, slice_get, slice_range, rules, append-nil, append_assoc, drop-append-le, drop-drop, drop-take, take-take, common_steps}
+use Rattle.ac_automaton.specs.Prelude.{Occurrence, Replacing, StreamError, Turn, StartFrom, answer_of_exchange, GivesMatch, HasReplaced, matches_so_far, Passing, PassesPiece, Steps, Streaming}
 use Rattle.ac_util.proofs.Spans.{take_drop_take}
-use Rattle.ac_automaton.specs.Prelude.{answer_of_exchange, GivesMatch, HasReplaced, matches_so_far, Passing, PassesPiece, Steps, Streaming}
 use Rattle.ac_util.proofs.ReplacedCuts.{part-join}
 use Rattle.ac_automaton.proofs.Gathering.{piece-join}
 use Rattle.ac_automaton.proofs.Places.{take-next}

@@ -1,16 +1,8 @@
 -- The search of a stream: how its buffer is filled, and what is seen then.
-use Rattle.std.proofs.Common.{All, ◌≡◌, ◌≢◌, ℕ, ◌+◌, ◌-◌, ◌≤◌, List, ◌++◌, length, length-append, length-drop, take, drop, max, inl, inr, refl, ap, sym, subst, ◌∙◌, arith, append_assoc, slice_range, rules}
-use Rattle.std.proofs.lemmas.List.{append-nil, drop-append-le, drop-drop, length-take-le}
-use Rattle.std.proofs.Math.Seq.{take-add}
-use Rattle.std.proofs.lemmas.Grind.{common_steps}
-use Rattle.ac_util.specs.Commits.{StandsAfter}
-use Rattle.ac_automaton.specs.Util.{Built, from, Node, stream_result, usize_max}
+use Rattle.ac_util.proofs.Prelude.{All, ◌≡◌, ◌≢◌, ℕ, ◌+◌, ◌-◌, ◌≤◌, List, ◌++◌, length, length-append, length-drop, take, drop, max, inl, inr, refl, ap, sym, subst, ◌∙◌, arith, append_assoc, slice_range, rules, append-nil, drop-append-le, drop-drop, length-take-le, take-add, common_steps}
+use Rattle.ac_automaton.specs.Prelude.{StandsAfter, Built, from, Node, stream_result, usize_max, Ended, Failed, HasGivenSettled, Inside, IsStreaming, Open, Phase, plain_of, StandsPast, stream_from, Streaming, pending, HasGivenFirst, ChainMatch}
 use Rattle.ac_util.proofs.Longer.{pick-extended}
 use Rattle.ac_util.proofs.Spans.{take_drop_take}
-use Rattle.ac_automaton.specs.Prelude.{Ended, Failed, HasGivenSettled, Inside, IsStreaming, Open, Phase, plain_of, StandsPast, stream_from, Streaming}
-use Rattle.ac_automaton.specs.Cores.{pending}
-use Rattle.ac_automaton.specs.Streams.{HasGivenFirst}
-use Rattle.ac_automaton.specs.declared.automaton.commits.ChainMatch.{ChainMatch}
 
 -- what was given in some bytes is given in more
 module _ (built : Built) (bytes more : List ℕ) (begun : ℕ) where

@@ -1,10 +1,6 @@
 -- The search of a stream under Standard: it gives the first match of the state to which it has come.
-use Rattle.std.proofs.Common.{◌≡◌, cond, ℕ, zero, suc, ◌+◌, ◌-◌, ◌<◌, ◌≤◌, Bool, true, false, List, [], ◌∷◌, ◌++◌, length, length-append, slice_get, inl, inr, refl, ap, sym, subst, ◌∙◌, arith, Option, Some, None, IfSome, option_map}
-use Rattle.std.proofs.lemmas.Bool.{cases_lt}
-use Rattle.std.proofs.lemmas.List.{append-nil}
-use Rattle.ac_util.specs.Prelude.{step}
-use Rattle.ac_util.specs.Commits.{StandsAfter}
-use Rattle.ac_automaton.specs.Util.{longest_len, MatchKind, No, Node, Occurrence, pattern_of, pick, Search, Standard}
+use Rattle.ac_util.proofs.Prelude.{◌≡◌, cond, ℕ, zero, suc, ◌+◌, ◌-◌, ◌<◌, ◌≤◌, Bool, true, false, List, [], ◌∷◌, ◌++◌, length, length-append, slice_get, inl, inr, refl, ap, sym, subst, ◌∙◌, arith, Option, Some, None, IfSome, option_map, cases_lt, append-nil}
+use Rattle.ac_automaton.specs.Prelude.{step, StandsAfter, longest_len, MatchKind, No, Node, Occurrence, pattern_of, pick, Search, Standard, AutomatonView, Cursor, Inside, IsStreaming, matches_of, node_at, Phase, place_of, plain_of, StandsPast, stream_from, Streaming, first_given, pending, IsRestBefore, streaming_by, led, scan_of, ChainMatch, ChainRest, Given}
 use Rattle.ac_util.proofs.Beginning.{ends_by, pick-within, within}
 use Rattle.ac_util.proofs.Longer.{pick-extended}
 use Rattle.ac_util.proofs.OneLonger.{pick-empty_some}
@@ -12,15 +8,6 @@ use Rattle.ac_util.proofs.Onward.{after-start, byte_at, step-byte}
 use Rattle.ac_util.proofs.SearchLoop.{pick-found, pick-goes_on}
 use Rattle.ac_util.proofs.Shortest.{longest-most}
 use Rattle.ac_util.proofs.Walks.{pick-Occurs}
-use Rattle.ac_automaton.specs.Prelude.{AutomatonView, Cursor, Inside, IsStreaming, matches_of, node_at, Phase, place_of, plain_of, StandsPast, stream_from, Streaming}
-use Rattle.ac_automaton.specs.Cores.{first_given, pending}
-use Rattle.ac_automaton.specs.Onward.{IsRestBefore}
-use Rattle.ac_automaton.specs.Streams.{streaming_by}
-use Rattle.ac_automaton.specs.Reads.{led}
-use Rattle.ac_automaton.specs.Scans.{scan_of}
-use Rattle.ac_automaton.specs.declared.automaton.commits.ChainMatch.{ChainMatch}
-use Rattle.ac_automaton.specs.declared.automaton.onward.ChainRest.{ChainRest}
-use Rattle.ac_automaton.specs.declared.automaton.onward.Given.{Given}
 use Rattle.ac_automaton.proofs.LedWalks.{led-reached, node-is}
 use Rattle.ac_automaton.proofs.StreamReads.{at, begun-before, comes, IsReadOn, none-more, of-search, onward, place, q, Settles, stands-here, stands-there, u, within-buffer, within-bytes}
 use Rattle.ac_automaton.proofs.StreamRefusals.{allowed-some}

@@ -1,17 +1,9 @@
 -- The search of a stream gives a match that is the next one whatever follows, and goes on after it.
-use Rattle.std.proofs.Common.{◌≡◌, ◌≢◌, ℕ, ◌+◌, ◌-◌, ◌<◌, ◌≤◌, true, List, [], ◌∷◌, ◌++◌, length, length-append, get_or, inl, inr, refl, ap, sym, subst, ◌∙◌, arith, Option, Some, AllPairs, slice_get, rules}
-use Rattle.std.proofs.lemmas.Bool.{cases_lt, false≢true}
-use Rattle.std.proofs.lemmas.List.{append-nil, append_assoc}
-use Rattle.std.proofs.lemmas.Option.{get_or_from_slice_get, slice_get_within}
-use Rattle.std.proofs.lemmas.Grind.{common_steps}
-use Rattle.ac_automaton.specs.Util.{Built, is_leftmost, IsAfter, IsSettledAt, IsSettledBy, last_end, LeftmostFirst, LeftmostLongest, MatchKind, Node, Occurrence, Occurs, pattern_of, pick, settled, Standard, stream_result, walk_after}
+use Rattle.ac_util.proofs.Prelude.{◌≡◌, ◌≢◌, ℕ, ◌+◌, ◌-◌, ◌<◌, ◌≤◌, true, List, [], ◌∷◌, ◌++◌, length, length-append, get_or, inl, inr, refl, ap, sym, subst, ◌∙◌, arith, Option, Some, AllPairs, slice_get, rules, cases_lt, false≢true, append-nil, append_assoc, get_or_from_slice_get, slice_get_within, common_steps}
+use Rattle.ac_automaton.specs.Prelude.{Built, is_leftmost, IsAfter, IsSettledAt, IsSettledBy, last_end, LeftmostFirst, LeftmostLongest, MatchKind, Node, Occurrence, Occurs, pattern_of, pick, settled, Standard, stream_result, walk_after, Ended, Failed, GivesMatch, Inside, IsSettledIn, IsSettling, IsStreaming, Open, Phase, StandsPast, stream_from, Streaming, HasGivenFirst, ChainMatch, ChainRest}
 use Rattle.ac_util.proofs.Decided.{settled-at}
 use Rattle.ac_util.proofs.Shortest.{none-empty}
 use Rattle.ac_util.proofs.Walks.{next-some, pick-Occurs, walk-ordered, walk_after-Some}
-use Rattle.ac_automaton.specs.Prelude.{Ended, Failed, GivesMatch, Inside, IsSettledIn, IsSettling, IsStreaming, Open, Phase, StandsPast, stream_from, Streaming}
-use Rattle.ac_automaton.specs.Streams.{HasGivenFirst}
-use Rattle.ac_automaton.specs.declared.automaton.commits.ChainMatch.{ChainMatch}
-use Rattle.ac_automaton.specs.declared.automaton.onward.ChainRest.{ChainRest}
 use Rattle.ac_automaton.proofs.ListLoop.{get-beyond}
 use Rattle.ac_automaton.proofs.StreamRefusals.{allowed-some}
 

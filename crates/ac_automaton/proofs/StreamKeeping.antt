@@ -1,14 +1,9 @@
 -- The search of a stream gives no match: as far as which place it is settled, and from where on bytes are kept.
-use Rattle.std.proofs.Common.{◌≡◌, ◌⊎◌, ℕ, ◌+◌, ◌-◌, ◌≤◌, true, List, length, max, inl, inr, refl, ap, sym, subst, ◌∙◌, arith, Option, Some, None, rules}
-use Rattle.std.proofs.lemmas.List.{append-nil}
-use Rattle.std.proofs.lemmas.Grind.{common_steps}
-use Rattle.ac_automaton.specs.Util.{is_leftmost, IsNear, IsSettledAt, IsSettledBy, Node, Occurrence, pick, Standard, stream_result}
+use Rattle.ac_util.proofs.Prelude.{◌≡◌, ◌⊎◌, ℕ, ◌+◌, ◌-◌, ◌≤◌, true, List, length, max, inl, inr, refl, ap, sym, subst, ◌∙◌, arith, Option, Some, None, rules, append-nil, common_steps}
+use Rattle.ac_automaton.specs.Prelude.{is_leftmost, IsNear, IsSettledAt, IsSettledBy, Node, Occurrence, pick, Standard, stream_result, Ended, Failed, HasGivenSettled, Inside, IsSettledIn, IsStreaming, kept_from, Open, Phase, StandsPast, stream_from, Streaming, ChainMatch, ChainRest}
 use Rattle.ac_util.proofs.Decided.{settled-at}
 use Rattle.ac_util.proofs.Shortest.{longest-most, none-empty}
 use Rattle.ac_util.proofs.Walks.{next-none, walk_after-None}
-use Rattle.ac_automaton.specs.Prelude.{Ended, Failed, HasGivenSettled, Inside, IsSettledIn, IsStreaming, kept_from, Open, Phase, StandsPast, stream_from, Streaming}
-use Rattle.ac_automaton.specs.declared.automaton.commits.ChainMatch.{ChainMatch}
-use Rattle.ac_automaton.specs.declared.automaton.onward.ChainRest.{ChainRest}
 use Rattle.ac_automaton.proofs.StreamGiving.{settled-kind}
 use Rattle.ac_automaton.proofs.StreamReserves.{most-few, most-leftmost}
 use Rattle.ac_automaton.proofs.StreamRefusals.{allowed-some}

@@ -1,19 +1,9 @@
 -- The search of a stream gives the next match of a chain.
-use Rattle.std.proofs.Common.{◌≡◌, ◌≢◌, ℕ, ◌+◌, ◌<◌, ◌≤◌, true, List, [], ◌++◌, length, length-append, slice_get, inl, inr, refl, ap, sym, subst, ◌∙◌, arith, Option, Some, None, IfSome}
-use Rattle.std.proofs.lemmas.Bool.{false≢true}
-use Rattle.ac_util.specs.Commits.{StandsAfter}
-use Rattle.ac_automaton.specs.Util.{is_leftmost, MatchKind, Occurrence, pattern_of, pick, Standard}
+use Rattle.ac_util.proofs.Prelude.{◌≡◌, ◌≢◌, ℕ, ◌+◌, ◌<◌, ◌≤◌, true, List, [], ◌++◌, length, length-append, slice_get, inl, inr, refl, ap, sym, subst, ◌∙◌, arith, Option, Some, None, IfSome, false≢true}
+use Rattle.ac_automaton.specs.Prelude.{StandsAfter, is_leftmost, MatchKind, Occurrence, pattern_of, pick, Standard, AutomatonView, Ended, Failed, GivesMatch, Inside, IsStreaming, Phase, place_of, plain_of, stream_from, Streaming, No, chain_at, reads_on, MayTakeFrom, pending, TakesFrom, IsRestBefore, streaming_by, ChainMatch, ChainRest}
 use Rattle.ac_util.proofs.Onward.{after-low}
 use Rattle.ac_util.proofs.PickedWalks.{search-from}
 use Rattle.ac_util.proofs.Walks.{pick-Occurs}
-use Rattle.ac_automaton.specs.Prelude.{AutomatonView, Ended, Failed, GivesMatch, Inside, IsStreaming, Phase, place_of, plain_of, stream_from, Streaming}
-use Rattle.ac_automaton.specs.Util.{No}
-use Rattle.ac_automaton.specs.Commits.{chain_at, reads_on}
-use Rattle.ac_automaton.specs.Cores.{MayTakeFrom, pending, TakesFrom}
-use Rattle.ac_automaton.specs.Onward.{IsRestBefore}
-use Rattle.ac_automaton.specs.Streams.{streaming_by}
-use Rattle.ac_automaton.specs.declared.automaton.commits.ChainMatch.{ChainMatch}
-use Rattle.ac_automaton.specs.declared.automaton.onward.ChainRest.{ChainRest}
 use Rattle.ac_automaton.proofs.OnwardLists.{on-leftmost, on-some}
 use Rattle.ac_automaton.proofs.PastGives.{goes-known, known-high, known-numbered, known-onward, known-within, next, picks-known}
 use Rattle.ac_automaton.proofs.StreamGiving.{gives, streams-then}

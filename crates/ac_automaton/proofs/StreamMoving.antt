@@ -1,14 +1,7 @@
 -- The search of a stream makes room in its buffer: the bytes that are kept are moved to the front, or none is.
-use Rattle.std.proofs.Common.{All, ◌≡◌, ℕ, ◌+◌, ◌-◌, ◌≤◌, ◌⊎◌, List, ◌++◌, length, length-drop, take, drop, max, inl, inr, refl, ap, sym, subst, ◌∙◌, arith}
-use Rattle.std.specs.List.{copy_within}
-use Rattle.std.proofs.lemmas.List.{drop-drop, drop-take, drop_all}
+use Rattle.ac_util.proofs.Prelude.{All, ◌≡◌, ℕ, ◌+◌, ◌-◌, ◌≤◌, ◌⊎◌, List, ◌++◌, length, length-drop, take, drop, max, inl, inr, refl, ap, sym, subst, ◌∙◌, arith, copy_within, drop-drop, drop-take, drop_all, paste}
+use Rattle.ac_automaton.specs.Prelude.{StandsAfter, Node, pick, Ended, Inside, HasSearchedAll, IsStreaming, Open, plain_of, stream_from, Streaming, pending, ChainMatch}
 use Rattle.std.proofs.lemmas.List.Edits.{take-paste}
-use Rattle.std.proofs.Math.Seq.{paste}
-use Rattle.ac_util.specs.Commits.{StandsAfter}
-use Rattle.ac_automaton.specs.Util.{Node, pick}
-use Rattle.ac_automaton.specs.Prelude.{Ended, Inside, HasSearchedAll, IsStreaming, Open, plain_of, stream_from, Streaming}
-use Rattle.ac_automaton.specs.Cores.{pending}
-use Rattle.ac_automaton.specs.declared.automaton.commits.ChainMatch.{ChainMatch}
 
 module _ (stands : ℕ → Node → Type 0) (chains : List (List ChainMatch)) (i : Inside) (v : Streaming)
     (inv : IsStreaming stands chains i v) where

@@ -1,13 +1,6 @@
 -- The search of a stream, whether it stops at a match or not: what is settled of the state to which it has come was given.
-use Rattle.std.proofs.Common.{◌≡◌, ◌≢◌, ◌⊎◌, ℕ, true, false, List, inl, inr, ap, sym, subst, ◌∙◌, not, None, Option, Some}
-use Rattle.std.proofs.lemmas.Bool.{false≢true}
-use Rattle.ac_automaton.specs.Util.{Built, is_leftmost, MatchKind, No, Node, Standard}
-use Rattle.ac_automaton.specs.Prelude.{AutomatonView, Cursor, Ended, Inside, IsStreaming, matches_of, Phase, Streaming}
-use Rattle.ac_automaton.specs.Cores.{GivesAt, IsCore}
-use Rattle.ac_automaton.specs.Commits.{CommitsView, HasCommits, reads_on}
-use Rattle.ac_automaton.specs.Streams.{SettlesBy, streaming_by}
-use Rattle.ac_automaton.specs.declared.automaton.commits.ChainMatch.{ChainMatch}
-use Rattle.ac_automaton.specs.declared.automaton.onward.Given.{Given}
+use Rattle.ac_util.proofs.Prelude.{◌≡◌, ◌≢◌, ◌⊎◌, ℕ, true, false, List, inl, inr, ap, sym, subst, ◌∙◌, not, None, Option, Some, false≢true}
+use Rattle.ac_automaton.specs.Prelude.{Built, is_leftmost, MatchKind, No, Node, Standard, AutomatonView, Cursor, Ended, Inside, IsStreaming, matches_of, Phase, Streaming, GivesAt, IsCore, CommitsView, HasCommits, reads_on, SettlesBy, streaming_by, ChainMatch, Given}
 use Rattle.ac_automaton.proofs.OnwardGives.{gives-first, gives-past}
 use Rattle.ac_automaton.proofs.StreamFirst.{settles-first}
 use Rattle.ac_automaton.proofs.StreamSearched.{holds-first}

@@ -1,21 +1,9 @@
 -- The search of a stream under a leftmost kind: what it gives of the state to which it has come, and where nothing is given.
-use Rattle.std.proofs.Common.{◌≡◌, ◌≢◌, ◌⊎◌, ℕ, ◌+◌, ◌-◌, ◌<◌, ◌≤◌, true, false, List, [], ◌++◌, length, length-append, max, slice_index, inl, inr, refl, ap, sym, subst, ◌∙◌, arith, Option, Some, None, IfSome, option_map}
-use Rattle.std.proofs.lemmas.Bool.{false≢true}
-use Rattle.std.proofs.lemmas.List.{append-nil}
-use Rattle.ac_util.specs.Prelude.{reached, step, text}
-use Rattle.ac_util.specs.Commits.{IsPickIn, StandsAfter}
-use Rattle.ac_automaton.specs.Util.{is_leftmost, longest_len, No, Occurrence, pick}
+use Rattle.ac_util.proofs.Prelude.{◌≡◌, ◌≢◌, ◌⊎◌, ℕ, ◌+◌, ◌-◌, ◌<◌, ◌≤◌, true, false, List, [], ◌++◌, length, length-append, max, slice_index, inl, inr, refl, ap, sym, subst, ◌∙◌, arith, Option, Some, None, IfSome, option_map, false≢true, append-nil}
+use Rattle.ac_automaton.specs.Prelude.{reached, step, text, IsPickIn, StandsAfter, is_leftmost, longest_len, No, Occurrence, pick, AutomatonView, Cursor, Ended, Inside, IsStreaming, Phase, place_of, plain_of, step_of, stream_from, Streaming, reads_on, IsGiven, pending, IsRestBefore, streaming_by, ChainMatch, ChainRest, Given}
 use Rattle.ac_util.proofs.Living.{node-short, pick-beyond}
 use Rattle.ac_util.proofs.Onward.{byte_at}
 use Rattle.ac_util.proofs.Walks.{pick-Occurs}
-use Rattle.ac_automaton.specs.Prelude.{AutomatonView, Cursor, Ended, Inside, IsStreaming, Phase, place_of, plain_of, step_of, stream_from, Streaming}
-use Rattle.ac_automaton.specs.Commits.{reads_on}
-use Rattle.ac_automaton.specs.Cores.{IsGiven, pending}
-use Rattle.ac_automaton.specs.Onward.{IsRestBefore}
-use Rattle.ac_automaton.specs.Streams.{streaming_by}
-use Rattle.ac_automaton.specs.declared.automaton.commits.ChainMatch.{ChainMatch}
-use Rattle.ac_automaton.specs.declared.automaton.onward.ChainRest.{ChainRest}
-use Rattle.ac_automaton.specs.declared.automaton.onward.Given.{Given}
 use Rattle.ac_automaton.proofs.LedWalks.{byte-is}
 use Rattle.ac_automaton.proofs.PastGives.{ends-there, goes-on, in-node, never-dead, numbered, pattern-within, picks-first, rest-within}
 use Rattle.ac_automaton.proofs.StreamKeeping.{settles-leftmost}

@@ -1,17 +1,7 @@
 -- The search of a stream reads on in its buffer: where it stands then, whichever bytes follow; and what it gives or keeps there.
-use Rattle.std.proofs.Common.{◌≡◌, ◌≢◌, ◌⊎◌, ℕ, ◌+◌, ◌-◌, ◌<◌, ◌≤◌, true, List, [], ◌++◌, length, length-append, take, max, get_or, slice_index, IfSome, inl, inr, refl, ap, sym, subst, ◌∙◌, arith, Option, Some, None, option_map}
-use Rattle.std.proofs.lemmas.List.{get_or-drop, get_or_append_left}
-use Rattle.ac_util.specs.Commits.{IsSearchFor, StandsAfter}
-use Rattle.ac_automaton.specs.Util.{is_leftmost, IsSettledBy, LeftmostFirst, LeftmostLongest, MatchKind, No, Occurrence, pattern_of, pick, Search, Standard}
-use Rattle.ac_automaton.specs.Prelude.{AutomatonView, Cursor, Ended, Failed, GivesMatch, HasGivenSettled, Inside, IsStreaming, kept_from, Phase, place_of, plain_of, StandsPast, stream_from, Streaming}
-use Rattle.ac_automaton.specs.Cores.{pending}
-use Rattle.ac_automaton.specs.Reads.{Comes, Point, StopsAt}
-use Rattle.ac_automaton.specs.Scans.{scan_of}
+use Rattle.ac_util.proofs.Prelude.{◌≡◌, ◌≢◌, ◌⊎◌, ℕ, ◌+◌, ◌-◌, ◌<◌, ◌≤◌, true, List, [], ◌++◌, length, length-append, take, max, get_or, slice_index, IfSome, inl, inr, refl, ap, sym, subst, ◌∙◌, arith, Option, Some, None, option_map, get_or-drop, get_or_append_left}
+use Rattle.ac_automaton.specs.Prelude.{IsSearchFor, StandsAfter, is_leftmost, IsSettledBy, LeftmostFirst, LeftmostLongest, MatchKind, No, Occurrence, pattern_of, pick, Search, Standard, AutomatonView, Cursor, Ended, Failed, GivesMatch, HasGivenSettled, Inside, IsStreaming, kept_from, Phase, place_of, plain_of, StandsPast, stream_from, Streaming, pending, Comes, Point, StopsAt, scan_of, ReadsThrough, streaming_by, ChainMatch, ChainRest, Given}
 use Rattle.ac_automaton.proofs.LedWalks.{IsSearchOf, led-after}
-use Rattle.ac_automaton.specs.Streams.{ReadsThrough, streaming_by}
-use Rattle.ac_automaton.specs.declared.automaton.commits.ChainMatch.{ChainMatch}
-use Rattle.ac_automaton.specs.declared.automaton.onward.ChainRest.{ChainRest}
-use Rattle.ac_automaton.specs.declared.automaton.onward.Given.{Given}
 use Rattle.ac_automaton.proofs.StreamGiving.{gives, streams-then}
 use Rattle.ac_automaton.proofs.StreamKeeping.{gives-settled, kept_open, streams-on}
 

@@ -1,9 +1,6 @@
 -- Why a stream is refused: for its start or an empty pattern, and for no match kind.
-use Rattle.std.proofs.Common.{◌≡◌, ◌≢◌, ◌&&◌, nat_lt, Bool, true, false, Some, None, inl, inr, ap, sym, ◌∙◌, rules, arith}
-use Rattle.std.proofs.lemmas.Bool.{cases_lt, false≢true, lt-ltb}
-use Rattle.std.proofs.lemmas.Grind.{common_steps}
-use Rattle.ac_automaton.specs.Util.{Built, empty_refusal, has_empty, is_leftmost, MatchKind, No, refusal, shortest_len, start_refusal, StartKind, Stream, stream_refusal, UnsupportedEmpty}
-use Rattle.ac_automaton.specs.Commits.{reads_on}
+use Rattle.ac_util.proofs.Prelude.{◌≡◌, ◌≢◌, ◌&&◌, nat_lt, Bool, true, false, Some, None, inl, inr, ap, sym, ◌∙◌, rules, arith, cases_lt, false≢true, lt-ltb, common_steps}
+use Rattle.ac_automaton.specs.Prelude.{Built, empty_refusal, has_empty, is_leftmost, MatchKind, No, refusal, shortest_len, start_refusal, StartKind, Stream, stream_refusal, UnsupportedEmpty, reads_on}
 use Rattle.ac_util.proofs.Shortest.{shortest-empty}
 
 -- where the searcher has the start that a stream needs it is refused for an empty pattern alone

@@ -1,10 +1,7 @@
 -- The replacement of a stream from its beginning on: what was read so far, its end, and where it fails.
-use Rattle.std.proofs.Common.{◌≡◌, ℕ, ◌≤◌, Bool, List, [], ◌++◌, length, take, drop, inl, inr, refl, ap, sym, subst, ◌∙◌, arith, Option, Some, None, Result, rules}
-use Rattle.std.proofs.lemmas.List.{append-nil, take-append-le, take_all}
-use Rattle.std.proofs.lemmas.Grind.{common_steps}
-use Rattle.ac_automaton.specs.Util.{buffer_len, Built, IsNear, IsSettledBy, Occurrence, Reading, ReadsAll, ReadsSome, Replacing, stream_result, StreamError, usize_max}
+use Rattle.ac_util.proofs.Prelude.{◌≡◌, ℕ, ◌≤◌, Bool, List, [], ◌++◌, length, take, drop, inl, inr, refl, ap, sym, subst, ◌∙◌, arith, Option, Some, None, Result, rules, append-nil, take-append-le, take_all, common_steps}
+use Rattle.ac_automaton.specs.Prelude.{buffer_len, Built, IsNear, IsSettledBy, Occurrence, Reading, ReadsAll, ReadsSome, Replacing, stream_result, StreamError, usize_max, Ended, FailsBy, FailsToExchange, FailsToFill, FillsMore, HasExchanged, HasExchangedFirst, HasReplaced, initial_stream, IsSettledIn, matches_so_far, MeetsEnd, Open, Passing, ReplacesBy, Steps, Streaming}
 use Rattle.ac_util.proofs.Devices.{fails-on, reads-on, reads-out}
-use Rattle.ac_automaton.specs.Prelude.{Ended, FailsBy, FailsToExchange, FailsToFill, FillsMore, HasExchanged, HasExchangedFirst, HasReplaced, initial_stream, IsSettledIn, matches_so_far, MeetsEnd, Open, Passing, ReplacesBy, Steps, Streaming}
 use Rattle.ac_automaton.proofs.StreamExchanged.{replaced-all, replaced-filled, replaced-none}
 
 -- the replacement of a stream from its beginning on

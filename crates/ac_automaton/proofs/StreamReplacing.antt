@@ -1,13 +1,9 @@
 -- The steps of a stream's replacement by a closure, without what wraps it.
-use Rattle.std.proofs.Common.{◌≡◌, ℕ, Bool, List, [], ◌∷◌, take, drop, inl, inr, ap, subst, arith, Option, Some, None, Result, Ok, Err, MatchResult, slice_range, rules}
-use Rattle.std.specs.Borrow.{Bor, MutBor}
+use Rattle.ac_util.proofs.Prelude.{◌≡◌, ℕ, Bool, List, [], ◌∷◌, take, drop, inl, inr, ap, subst, arith, Option, Some, None, Result, Ok, Err, MatchResult, slice_range, rules, Bor, MutBor, common_steps}
+use Rattle.ac_automaton.specs.Prelude.{AnswersStream, answer_of_result, Built, Calls, FailsToReplaceWith, MatchAnswer, MatchError, Occurrence, Reading, ReplacementSteps, ReplacesStreamWith, Replacing, stream_result, StreamError, WritesPiece, Writing, Io, answer_of_exchange, ByClosure, CallsBy, FailsBy, Passing, PassesPiece, ReplacesBy, Steps}
 use Rattle.std.specs.Fn.{Mut}
 use Rattle.std.specs.declared.io.Error.{Error}
-use Rattle.std.proofs.lemmas.Grind.{common_steps}
-use Rattle.ac_automaton.specs.Util.{AnswersStream, answer_of_result, Built, Calls, FailsToReplaceWith, MatchAnswer, MatchError, Occurrence, Reading, ReplacementSteps, ReplacesStreamWith, Replacing, stream_result, StreamError, WritesPiece, Writing}
-use Rattle.ac_util.specs.declared.error.StreamError.TheVariants.{Io}
 use Rattle.ac_automaton.proofs.Gathering.{piece-written}
-use Rattle.ac_automaton.specs.Prelude.{answer_of_exchange, ByClosure, CallsBy, FailsBy, Passing, PassesPiece, ReplacesBy, Steps}
 
 -- a replacement that isn't refused answers what one does by which it is made
 pub answers-by : (refusal : Option MatchError) (unchanged : Type 0) {whole whole' : Type 0} {fails fails' : StreamError → Type 0}

@@ -1,8 +1,6 @@
 -- How many bytes of a stream may be kept back.
-use Rattle.std.proofs.Common.{◌≡◌, ◌+◌, ◌≤◌, Bool, true, ap, arith, if◌then◌else◌}
-use Rattle.std.proofs.lemmas.Grind.{common_steps}
-use Rattle.ac_automaton.specs.Util.{Built, is_leftmost, longest_len, reserve}
-use Rattle.ac_automaton.specs.Streams.{most_kept}
+use Rattle.ac_util.proofs.Prelude.{◌≡◌, ◌+◌, ◌≤◌, Bool, true, ap, arith, if◌then◌else◌, common_steps}
+use Rattle.ac_automaton.specs.Prelude.{Built, is_leftmost, longest_len, reserve, most_kept}
 
 pub most-leftmost : (built : Built) → is_leftmost built.kind ≡ true → most_kept built ≡ longest_len built.patterns
 most-leftmost built is = ap (λ (t : Bool). if t then longest_len built.patterns else reserve built) is

@@ -1,18 +1,7 @@
 -- The search of a stream under Standard gives no match of the state to which it has come: then it has searched all that was read.
-use Rattle.std.proofs.Common.{◌≡◌, ◌⊎◌, ℕ, ◌+◌, ◌<◌, ◌≤◌, true, List, [], ◌∷◌, length, slice_index, inl, inr, refl, ap, sym, subst, ◌∙◌, arith, Option, Some, None, IfSome}
-use Rattle.std.proofs.lemmas.List.{append-nil}
-use Rattle.ac_util.specs.Prelude.{step}
-use Rattle.ac_util.specs.Commits.{StandsAfter}
-use Rattle.ac_automaton.specs.Util.{No, Node, Occurrence, pick, Search, Standard}
+use Rattle.ac_util.proofs.Prelude.{◌≡◌, ◌⊎◌, ℕ, ◌+◌, ◌<◌, ◌≤◌, true, List, [], ◌∷◌, length, slice_index, inl, inr, refl, ap, sym, subst, ◌∙◌, arith, Option, Some, None, IfSome, append-nil}
+use Rattle.ac_automaton.specs.Prelude.{step, StandsAfter, No, Node, Occurrence, pick, Search, Standard, AutomatonView, Cursor, Inside, IsStreaming, matches_of, node_at, Phase, plain_of, step_of, stream_from, Streaming, first_given, pending, IsRestBefore, streaming_by, StopsAt, scan_of, ChainMatch, ChainRest}
 use Rattle.ac_util.proofs.Living.{dead-picked}
-use Rattle.ac_automaton.specs.Prelude.{AutomatonView, Cursor, Inside, IsStreaming, matches_of, node_at, Phase, plain_of, step_of, stream_from, Streaming}
-use Rattle.ac_automaton.specs.Cores.{first_given, pending}
-use Rattle.ac_automaton.specs.Onward.{IsRestBefore}
-use Rattle.ac_automaton.specs.Streams.{streaming_by}
-use Rattle.ac_automaton.specs.Reads.{StopsAt}
-use Rattle.ac_automaton.specs.Scans.{scan_of}
-use Rattle.ac_automaton.specs.declared.automaton.commits.ChainMatch.{ChainMatch}
-use Rattle.ac_automaton.specs.declared.automaton.onward.ChainRest.{ChainRest}
 use Rattle.ac_automaton.proofs.LedWalks.{byte-is}
 use Rattle.ac_automaton.proofs.StreamKeeping.{settles-standard}
 use Rattle.ac_automaton.proofs.StreamReads.{at, begun-before, comes, hand-there, HoldsBack, IsReadOn, none-more, of-search, onward, q, read-enough, stands-there, u, within-buffer}

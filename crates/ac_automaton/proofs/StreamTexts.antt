@@ -1,11 +1,7 @@
 -- The text that the replacement of a stream by a list of texts leaves.
-use Rattle.std.proofs.Common.{◌≡◌, ℕ, Bool, List, [], ◌∷◌, ◌++◌, length, take, drop, inl, inr, refl, sym, subst, ◌∙◌, arith, Option, Some, None, Result, Ok, Err, slice_index_or, slice_range, rules}
-use Rattle.std.proofs.lemmas.List.{take_all}
-use Rattle.std.proofs.lemmas.Grind.{common_steps}
-use Rattle.ac_automaton.specs.Util.{Built, FailsToReplace, HasWrittenFirst, MatchAnswer, Occurrence, Reading, replaced, replaced_from, ReplacesStream, Replacing, stream_result, StreamError}
-use Rattle.ac_automaton.specs.Prelude.{answer_of_exchange, error_in, FailsBy, HasExchangedFirst, Passing, PassesPiece, ReplacesBy, Steps}
+use Rattle.ac_util.proofs.Prelude.{◌≡◌, ℕ, Bool, List, [], ◌∷◌, ◌++◌, length, take, drop, inl, inr, refl, sym, subst, ◌∙◌, arith, Option, Some, None, Result, Ok, Err, slice_index_or, slice_range, rules, take_all, common_steps}
+use Rattle.ac_automaton.specs.Prelude.{Built, FailsToReplace, HasWrittenFirst, MatchAnswer, Occurrence, Reading, replaced, replaced_from, ReplacesStream, Replacing, stream_result, StreamError, answer_of_exchange, error_in, FailsBy, HasExchangedFirst, Passing, PassesPiece, ReplacesBy, Steps, Passes}
 use Rattle.ac_automaton.proofs.Gathering.{piece-begun, piece-failed, piece-join, piece-written}
-use Rattle.ac_automaton.specs.Exchanges.{Passes}
 
 -- an exchange by texts, which stay as they are
 module _ {E D : Type 0} (passing : Passing E D) (texts : E → List (List ℕ))

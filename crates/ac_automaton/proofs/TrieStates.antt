@@ -1,10 +1,6 @@
 -- What the number of a trie's state says of the node that it stands for.
-use Rattle.std.proofs.Common.{◌≡◌, ◌≢◌, ◌⊎◌, ◌↔◌, ℕ, zero, suc, ◌≤◌, ◌<◌, List, [], length, drop, get_or, ap, ◌∙◌, arith, Option, Some, None, IfSome, slice_get, rules}
-use Rattle.std.proofs.lemmas.Bool.{cases_lt}
-use Rattle.std.proofs.lemmas.Option.{slice_get_within}
-use Rattle.std.proofs.lemmas.Grind.{common_steps}
-use Rattle.ac_util.specs.Node.{Node, depth}
-use Rattle.ac_automaton.specs.Prelude.{all_matches, AreAllStates, DEAD, FIRST_INNER, HasState, IsState, IsTrie, IsTrieState, listed_within, MatchRest, TrieView, meaning_of, Represents, START, State, Takes, TakesMatch, Trie}
+use Rattle.ac_util.proofs.Prelude.{◌≡◌, ◌≢◌, ◌⊎◌, ◌↔◌, ℕ, zero, suc, ◌≤◌, ◌<◌, List, [], length, drop, get_or, ap, ◌∙◌, arith, Option, Some, None, IfSome, slice_get, rules, cases_lt, slice_get_within, common_steps}
+use Rattle.ac_automaton.specs.Prelude.{Node, depth, all_matches, AreAllStates, DEAD, FIRST_INNER, HasState, IsState, IsTrie, IsTrieState, listed_within, MatchRest, TrieView, meaning_of, Represents, START, State, Takes, TakesMatch, Trie}
 use Rattle.ac_automaton.proofs.Follows.{represented}
 use Rattle.ac_automaton.proofs.ListsOf.{length-listed, none-linked}
 

@@ -1,8 +1,6 @@
 -- A byte that a scan tries: where it leads on, where it leads to the dead state, and the byte in hand.
-use Rattle.std.proofs.Common.{◌≡◌, ◌≢◌, ◌⊎◌, ℕ, ◌+◌, ◌-◌, ◌*◌, ◌<◌, ◌≤◌, List, refl, ap, sym, ◌∙◌, subst, arith, Option, None, Some, IfSome, slice_index}
-use Rattle.ac_automaton.specs.Util.{Counts, credit, more_looks, Node}
-use Rattle.ac_automaton.specs.Prelude.{looks_of, most_looks, Scan, step_of, Work}
-use Rattle.ac_automaton.specs.Reads.{Comes, HasScanned, in_hand, led, MayRead, Point, read_to, ReadsFurther, ReadsOn, Tries}
+use Rattle.ac_util.proofs.Prelude.{◌≡◌, ◌≢◌, ◌⊎◌, ℕ, ◌+◌, ◌-◌, ◌*◌, ◌<◌, ◌≤◌, List, refl, ap, sym, ◌∙◌, subst, arith, Option, None, Some, IfSome, slice_index}
+use Rattle.ac_automaton.specs.Prelude.{Counts, credit, more_looks, Node, looks_of, most_looks, Scan, step_of, Work, Comes, HasScanned, in_hand, led, MayRead, Point, read_to, ReadsFurther, ReadsOn, Tries}
 use Rattle.ac_automaton.proofs.Led.{led-byte, led-none}
 use Rattle.ac_automaton.proofs.Looks.{look-each, step-within}
 

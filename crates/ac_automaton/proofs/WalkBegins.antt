@@ -1,15 +1,7 @@
 -- A walk that begins: what is kept of it, and that it has done nothing.
-use Rattle.std.proofs.Common.{◌≡◌, ℕ, ◌+◌, ◌≤◌, ◌==◌, if◌then◌else◌, Bool, true, false, List, [], length, refl, ap, sym, ◌∙◌, subst, arith, Option, None, Some, MatchOption}
-use Rattle.std.proofs.lemmas.Grind.{common_steps}
-use Rattle.ac_automaton.specs.Util.{Counts, credit, No, no_counts, Span, Taped}
+use Rattle.ac_util.proofs.Prelude.{◌≡◌, ℕ, ◌+◌, ◌≤◌, ◌==◌, if◌then◌else◌, Bool, true, false, List, [], length, refl, ap, sym, ◌∙◌, subst, arith, Option, None, Some, MatchOption, common_steps}
+use Rattle.ac_automaton.specs.Prelude.{Counts, credit, No, no_counts, Span, Taped, AutomatonView, Finding, Cursor, plain_of, search_of, first_work, reads_past_by, in_hand, pending, BeginsPast, IsKept, IsOnwardIn, IsReadingPast, IsRestBefore, kept_work, reached_by, ChainRest, Onward}
 use Rattle.ac_util.proofs.Onward.{after-start}
-use Rattle.ac_automaton.specs.Prelude.{AutomatonView, Finding, Cursor, plain_of, search_of}
-use Rattle.ac_automaton.specs.Iterators.{first_work, reads_past_by}
-use Rattle.ac_automaton.specs.Reads.{in_hand}
-use Rattle.ac_automaton.specs.Cores.{pending}
-use Rattle.ac_automaton.specs.Onward.{BeginsPast, IsKept, IsOnwardIn, IsReadingPast, IsRestBefore, kept_work, reached_by}
-use Rattle.ac_automaton.specs.declared.automaton.onward.ChainRest.{ChainRest}
-use Rattle.ac_automaton.specs.declared.automaton.onward.Onward.{Onward}
 use Rattle.ac_automaton.proofs.WalkOnce.{fresh}
 
 -- at its start a node is worth nothing

@@ -1,13 +1,9 @@
 -- A walk as its iterator keeps it: one that reads on past its matches, or one by finds.
-use Rattle.std.proofs.Common.{◌≡◌, ℕ, ◌+◌, ◌<◌, true, false, List, refl, ap, sym, ◌∙◌, subst, arith, Option, None, Some, MatchOption}
+use Rattle.ac_util.proofs.Prelude.{◌≡◌, ℕ, ◌+◌, ◌<◌, true, false, List, refl, ap, sym, ◌∙◌, subst, arith, Option, None, Some, MatchOption, false≢true}
+use Rattle.ac_automaton.specs.Prelude.{Counts, from, Occurrence, Span, Taped, after, AutomatonView, Finding, GoesOn, IsByFinds, last_after, reads_past, search_of, Walking, walking_of, Work, work_of, IsKept, IsReadingPast, kept_work, reached_by, Onward}
 use Rattle.std.specs.Option.{is_some}
-use Rattle.std.proofs.lemmas.Bool.{false≢true}
-use Rattle.ac_automaton.specs.Util.{Counts, from, Occurrence, Span, Taped}
 use Rattle.ac_util.proofs.OneLonger.{none-past_end}
 use Rattle.ac_util.proofs.Walks.{next-none, walk_after-None}
-use Rattle.ac_automaton.specs.Prelude.{after, AutomatonView, Finding, GoesOn, IsByFinds, last_after, reads_past, search_of, Walking, walking_of, Work, work_of}
-use Rattle.ac_automaton.specs.Onward.{IsKept, IsReadingPast, kept_work, reached_by}
-use Rattle.ac_automaton.specs.declared.automaton.onward.Onward.{Onward}
 use Rattle.ac_automaton.proofs.ReadOn.{grows-same}
 use Rattle.ac_automaton.proofs.WalkOnce.{HasGonePast, reads-past}
 

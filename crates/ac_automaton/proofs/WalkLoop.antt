@@ -1,14 +1,10 @@
 -- A walk that finds match after match: what it has read and counted.
-use Rattle.std.proofs.Common.{◌≡◌, ℕ, ◌+◌, ◌-◌, ◌<◌, ◌≤◌, ◌||◌, not, if◌then◌else◌, ap, Bool, MatchBool, true, false, ◌∙◌, [], ◌∷◌, inl, inr, refl, sym, arith, Option, Some, None, IfSome, MatchOption, ◌==◌, max, min, rules}
-use Rattle.std.proofs.lemmas.Bool.{and_parts, cases_Bool, eqb-true, false≢true}
-use Rattle.std.proofs.lemmas.Option.{IfSome_then}
-use Rattle.std.proofs.lemmas.Grind.{common_steps}
-use Rattle.ac_automaton.specs.Util.{from, is_leftmost, LeftmostFirst, LeftmostLongest, MatchKind, next_match, Occurrence, pick, repeats, Search, shortest_len, Standard, walk_after}
+use Rattle.ac_util.proofs.Prelude.{◌≡◌, ℕ, ◌+◌, ◌-◌, ◌<◌, ◌≤◌, ◌||◌, not, if◌then◌else◌, ap, Bool, MatchBool, true, false, ◌∙◌, [], ◌∷◌, inl, inr, refl, sym, arith, Option, Some, None, IfSome, MatchOption, ◌==◌, max, min, rules, and_parts, cases_Bool, eqb-true, false≢true, IfSome_then, common_steps}
+use Rattle.ac_automaton.specs.Prelude.{from, is_leftmost, LeftmostFirst, LeftmostLongest, MatchKind, next_match, Occurrence, pick, repeats, Search, shortest_len, Standard, walk_after, after, Finds, GoesOn, Grows, HasFound, HasSearched, IsByFinds, IsPaid, IsUnderWay, MovesApart, kept_place, last_after, Picking, reads_past, Walking, Work}
 use Rattle.ac_util.proofs.OneLonger.{none-past_end}
 use Rattle.ac_util.proofs.Shortest.{shortest-least}
 use Rattle.ac_util.proofs.Walks.{pick-in_span, pick-Occurs, walk_after-None, walk_after-Some}
 use Rattle.ac_automaton.proofs.ReadOn.{grows-trans}
-use Rattle.ac_automaton.specs.Prelude.{after, Finds, GoesOn, Grows, HasFound, HasSearched, IsByFinds, IsPaid, IsUnderWay, MovesApart, kept_place, last_after, Picking, reads_past, Walking, Work}
 
 -- a find of a walk reads from no place past the one read up to, and under Standard from just there
 kept : (order : MatchKind) (place : ℕ)

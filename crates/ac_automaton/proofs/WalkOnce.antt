@@ -1,19 +1,9 @@
 -- A walk that reads on past its matches: what it gives, and that what it counts is paid.
-use Rattle.std.proofs.Common.{◌≡◌, ◌⊎◌, ℕ, ◌+◌, ◌-◌, ◌*◌, ◌<◌, ◌≤◌, if◌then◌else◌, min, Bool, true, false, List, length, refl, ap, sym, ◌∙◌, subst, arith, Option, None, Some, IfSome}
-use Rattle.std.proofs.lemmas.Bool.{false≢true}
-use Rattle.std.proofs.lemmas.Option.{IfSome_then}
-use Rattle.ac_automaton.specs.Util.{Counts, from, may_skip, next_match, No, Occurrence, pick, Search, Span, Taped, usize_max}
+use Rattle.ac_util.proofs.Prelude.{◌≡◌, ◌⊎◌, ℕ, ◌+◌, ◌-◌, ◌*◌, ◌<◌, ◌≤◌, if◌then◌else◌, min, Bool, true, false, List, length, refl, ap, sym, ◌∙◌, subst, arith, Option, None, Some, IfSome, false≢true, IfSome_then}
+use Rattle.ac_automaton.specs.Prelude.{Counts, from, may_skip, next_match, No, Occurrence, pick, Search, Span, Taped, usize_max, after, AutomatonView, Finding, finding_of, Cursor, GoesOn, Grows, IsPaid, last_after, looks_beyond, MovesApart, plain_of, reads_past, search_of, Walking, walking_of, Work, work_of, reads_on, reads_past_by, in_hand, GoesBy, MayGo, spot, IsCounted, IsOnward, IsReadingPast, reached_by, Onward, Position}
 use Rattle.ac_util.proofs.Onward.{after-low}
 use Rattle.ac_util.proofs.PickedWalks.{next-any}
-use Rattle.ac_automaton.specs.Prelude.{after, AutomatonView, Finding, finding_of, Cursor, GoesOn, Grows, IsPaid, last_after, looks_beyond, MovesApart, plain_of, reads_past, search_of, Walking, walking_of, Work, work_of}
-use Rattle.ac_automaton.specs.Commits.{reads_on}
-use Rattle.ac_automaton.specs.Iterators.{reads_past_by}
-use Rattle.ac_automaton.specs.Reads.{in_hand}
-use Rattle.ac_automaton.specs.Cores.{GoesBy, MayGo, spot}
-use Rattle.ac_automaton.specs.Onward.{IsCounted, IsOnward, IsReadingPast, reached_by}
 use Rattle.ac_automaton.proofs.OnwardEnds.{HasGiven}
-use Rattle.ac_automaton.specs.declared.automaton.onward.Onward.{Onward}
-use Rattle.ac_automaton.specs.declared.automaton.onward.Position.{Position}
 use Rattle.ac_automaton.proofs.OnwardGives.{within-end}
 use Rattle.ac_automaton.proofs.OnwardGoes.{goes-apart, goes-given, goes-grow, may-go}
 use Rattle.ac_automaton.proofs.OnwardLists.{on-leftmost, on-some}

@@ -1,8 +1,8 @@
 -- What calls of `next` give, one after another, of a walk and of a listing.
-use Rattle.std.proofs.Common.{ap, length}
+use Rattle.ac_util.proofs.Prelude.{ap, length}
+use Rattle.ac_automaton.specs.Prelude.{GoesOn, ListsNext}
 use Rattle.std.specs.Iterator.Runs.{YieldsInOrder}
 use Rattle.std.proofs.iter.runs.Sources.{as_is, from_front}
-use Rattle.ac_automaton.specs.Prelude.{GoesOn, ListsNext}
 
 -- the matches that were left, in order
 pub goes_on-runs : YieldsInOrder GoesOn (λ w. w.rest)

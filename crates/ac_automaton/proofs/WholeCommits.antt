@@ -1,21 +1,10 @@
 -- The commits of all states are those of the automaton.
-use Rattle.std.proofs.Common.{◌≡◌, ◌≢◌, true, ℕ, ◌-◌, ◌<◌, List, [], ◌∷◌, length, map, inl, inr, refl, ap, sym, ◌∙◌, subst, arith, Contains, Some, get_or, nat_lt}
-use Rattle.std.specs.List.Sorted.{IsPermutation}
-use Rattle.std.proofs.lemmas.Bool.{and_parts, cases_lt, ltb-true}
+use Rattle.ac_util.proofs.Prelude.{◌≡◌, ◌≢◌, true, ℕ, ◌-◌, ◌<◌, List, [], ◌∷◌, length, map, inl, inr, refl, ap, sym, ◌∙◌, subst, arith, Contains, Some, get_or, nat_lt, IsPermutation, and_parts, cases_lt, ltb-true, length-map, get_or_from_slice_get, slice_get_read, slice_get_within}
+use Rattle.ac_automaton.specs.Prelude.{Anything, NodeCommits, Built, is_leftmost, Node, pattern_of, plain, plain_byte, shortest_len, ChainMatch, Commit, AreCommits, chain_at, ending_in, IsCommit, reads_on, AreMade, ending_by, HasCommit, IsMade, Made, MayCommit, IsTrie, meaning_of, plain_of, Trie, TrieView, automaton_of}
 use Rattle.std.proofs.Math.ListN.{get_or-map}
-use Rattle.std.proofs.lemmas.List.{length-map}
 use Rattle.std.proofs.lemmas.List.Sorted.{Contains-permutation, IsPermutation-sym}
-use Rattle.std.proofs.lemmas.Option.{get_or_from_slice_get, slice_get_read, slice_get_within}
-use Rattle.ac_util.specs.Commits.{Anything, NodeCommits}
-use Rattle.ac_automaton.specs.Util.{Built, is_leftmost, Node, pattern_of, plain, plain_byte, shortest_len}
 use Rattle.ac_util.proofs.Picks.{same_occurrence}
 use Rattle.ac_util.proofs.Shortest.{shortest-least}
-use Rattle.ac_automaton.specs.declared.automaton.commits.ChainMatch.{ChainMatch}
-use Rattle.ac_automaton.specs.declared.automaton.commits.Commit.{Commit}
-use Rattle.ac_automaton.specs.Commits.{AreCommits, chain_at, ending_in, IsCommit, reads_on}
-use Rattle.ac_automaton.specs.Committing.{AreMade, ending_by, HasCommit, IsMade, Made, MayCommit}
-use Rattle.ac_automaton.specs.Prelude.{IsTrie, meaning_of, plain_of, Trie, TrieView}
-use Rattle.ac_automaton.specs.Tries.{automaton_of}
 use Rattle.ac_automaton.proofs.Committing.{holds-none}
 use Rattle.ac_automaton.proofs.WholeTries.{plain-pattern}
 

@@ -1,15 +1,9 @@
 -- From the first states to a whole trie.
-use Rattle.std.proofs.Common.{◌≡◌, ℕ, zero, suc, ◌+◌, ◌≤◌, Bool, List, [], ◌∷◌, ◌++◌, map, length, inr, refl, sym, subst, arith, Some, None, slice_get, rules}
-use Rattle.std.proofs.lemmas.List.{get_or_past, length-map, length_push}
-use Rattle.std.proofs.lemmas.Option.{slice_get_within}
-use Rattle.std.proofs.lemmas.Grind.{common_steps}
-use Rattle.ac_automaton.specs.Util.{MatchKind, Node, pattern_of, plain, plain_byte}
-use Rattle.ac_automaton.specs.Prelude.{ANCHORED_START, AreStates, byte_at, FIRST_INNER, grown_view, Growth, HasRoot, HasBranched, IsGrown, IsOrder, IsTrie, Keyed, TrieView, nodes_of, numbers, NumbersNodes, QueuedState, Represents, Sorted, START, State, too_many_states, Transition, trie_of, Waits, word}
-use Rattle.ac_automaton.specs.Growths.{IsQueueReady}
+use Rattle.ac_util.proofs.Prelude.{◌≡◌, ℕ, zero, suc, ◌+◌, ◌≤◌, Bool, List, [], ◌∷◌, ◌++◌, map, length, inr, refl, sym, subst, arith, Some, None, slice_get, rules, get_or_past, length-map, length_push, slice_get_within, common_steps}
+use Rattle.ac_automaton.specs.Prelude.{MatchKind, Node, pattern_of, plain, plain_byte, ANCHORED_START, AreStates, byte_at, FIRST_INNER, grown_view, Growth, HasRoot, HasBranched, IsGrown, IsOrder, IsTrie, Keyed, TrieView, nodes_of, numbers, NumbersNodes, QueuedState, Represents, Sorted, START, State, too_many_states, Transition, trie_of, Waits, word, IsQueueReady, dead_state}
 use Rattle.ac_automaton.proofs.Grown.{AreStates-push, IsGrown-later, nodes-inner, nodes-rising}
 use Rattle.ac_automaton.proofs.ListsOf.{listed_within-matches}
 use Rattle.ac_automaton.proofs.StateCount.{numbers-nodes, too_many_states-none}
-use Rattle.ac_automaton.specs.Tries.{dead_state}
 
 -- the state of the unanchored start is that of the anchored start too
 pub Represents-beside : (g : TrieView) (v : Node) (t : State) → Represents g START v t

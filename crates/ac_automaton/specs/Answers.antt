@@ -44,18 +44,14 @@ FindsNext a input state result new_state =
     × GivesNext (a.stands input.anchored) a.listed a.built.kind (search_in a.built input) state new_state)
     (λ e. (overlapping_refusal a.built input ≡ Some e) × (new_state ≡ state))
 
--- the whole is the haystack with its matches exchanged for texts: in bytes; or as a text, in which a match that cuts a character
--- stays
-abbrev pub AreReplacedBytes : {Z : Type 0} → Built → List ℕ → List (List ℕ) → Vec ℕ Z → Type 0
-AreReplacedBytes built haystack texts whole = whole.items ≡ replaced haystack texts (exchanged built haystack)
-
 abbrev pub IsReplacedText : {Z : Type 0} → Built → List ℕ → List (List ℕ) → String Z → Type 0
 IsReplacedText built haystack texts whole = string_bytes whole ≡ replaced haystack texts (exchanged_in_text built haystack)
 
 -- that is what a replacement by a list answers
 abbrev pub AnswersBytes : {Z : Type 0} → Built → List ℕ → List (List ℕ) → Result (Vec ℕ Z) ReplaceError → Type 0
 AnswersBytes built haystack texts result =
-    AnswersWhole (replace_refusal built) (AreReplacedBytes built haystack texts) result
+    AnswersWhole (replace_refusal built)
+    (λ whole. whole.items ≡ replaced haystack texts (exchanged built haystack)) result
 
 abbrev pub AnswersText : {Z : Type 0} → Built → List ℕ → List (List ℕ) → Result (String Z) ReplaceError → Type 0
 AnswersText built haystack texts result =

@@ -68,12 +68,6 @@ pub record IsGiven (a : AutomatonView) (chains : List (List ChainMatch)) (u : Li
   pub stands : a.stands No given.next (Some node)
   pub gives : NodeCommits a.built.kind (plain_of a.built) u Anything picked (map (ending_in a.built) (chain_of chains given.chain)) node
 
--- that is given of each node for which a state stands, or none of them has a pick
-abbrev pub GivesOf : AutomatonView → List (List ChainMatch) → ℕ → Option Given → Type 0
-GivesOf a chains s result =
-    (u : List ℕ) → a.stands No s (Some u)
-    → MatchOption result (IsPickIn a.built.kind (plain_of a.built) No u None) (IsGiven a chains u)
-
 -- a search begins at its automaton's start; and unless it stops at a match it reads on past its matches by the commits
 pub record IsCore (a : AutomatonView) (c : CommitsView) (start : ℕ) (stops : Bool) : Type 0 where
   pub starts : a.stands No start (Some [])
@@ -87,7 +81,9 @@ first_given start listed = option_map (λ p. record { pattern = p; rest = 0; nex
 -- what is given of a state, if it stops at a match that state's first one
 abbrev pub GivesAt : AutomatonView → List (List ChainMatch) → ℕ → Bool → ℕ → Option Given → Type 0
 GivesAt a chains start true s result = result ≡ first_given start (a.listed s)
-GivesAt a chains start false s result = GivesOf a chains s result
+GivesAt a chains start false s result =
+    (u : List ℕ) → a.stands No s (Some u)
+    → MatchOption result (IsPickIn a.built.kind (plain_of a.built) No u None) (IsGiven a chains u)
 
 -- where a match ends, or else an end
 abbrev pub end_of : ℕ → Option Occurrence → ℕ
@@ -107,16 +103,14 @@ spot here tape counts = record { here = here; bytes = tape.bytes; work = work_of
 abbrev pub point_of : Spot → Point
 point_of p = record { bytes = p.bytes; cursor = p.here.cursor; hand = p.here.byte; work = p.work }
 
-abbrev pub rest_given : ℕ → Given → Option ChainRest
-rest_given at given = option_map (λ number. record { chain = number; index = 0; base = at - given.rest }) given.chain
-
 -- a search gives this where it stands, and goes on from there; or it gives none, and stays
 abbrev pub Leaves : Built → Position → Option Given → Option Occurrence → Position → Type 0
 Leaves built old None found new = (found ≡ None) × (new ≡ old)
 Leaves built old (Some given) found new = (found ≡ Some (place_of built (old.cursor.at - given.rest) given.pattern))
     × (new ≡ record old {
       cursor = record { state = given.next; at = old.cursor.at };
-      rest = rest_given old.cursor.at given;
+      rest = option_map (λ number. record { chain = number; index = 0; base = old.cursor.at - given.rest })
+          given.chain;
     })
 
 -- a scan stands for a node that is no longer than what it has read

@@ -104,10 +104,6 @@ abbrev pub given_by : (ℕ → List ℕ) → Search → Option Reached → ℕ
 given_by listed q None = 0
 given_by listed q (Some reached) = given_in listed q reached
 
--- the rank in the listing for which a state stands: how many of its items were given
-abbrev pub place_by : (ℕ → List ℕ) → Search → OverlappingState → ℕ
-place_by listed q state = given_by listed q state.reached
-
 -- a state may be handed to an overlapping search: it is fresh, or a call over the same search has left it
 abbrev pub IsPlaced : (ℕ → Node → Type 0) → (ℕ → List ℕ) → MatchKind → Search → OverlappingState → Type 0
 IsPlaced stands listed kind q state = IfSome state.reached (HasListed stands listed kind q)
@@ -116,8 +112,8 @@ IsPlaced stands listed kind q state = IfSome state.reached (HasListed stands lis
 -- it
 pub record GivesNext (stands : ℕ → Node → Type 0) (listed : ℕ → List ℕ) (kind : MatchKind) (q : Search)
     (state new_state : OverlappingState) : Type 0 where
-  pub item : new_state.found ≡ item_at q (place_by listed q state)
-  pub place : place_by listed q new_state ≡ place_after q (place_by listed q state)
+  pub item : new_state.found ≡ item_at q (given_by listed q state.reached)
+  pub place : given_by listed q new_state.reached ≡ place_after q (given_by listed q state.reached)
   pub placed : IsPlaced stands listed kind q new_state
 
 -- what is seen of an iterator over the listing: the items still to come; the search, and how many of its items

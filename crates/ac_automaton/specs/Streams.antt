@@ -301,10 +301,6 @@ GivesSettled seen k state at result =
     MatchOption result (SettlesBy k.stops at.0 at.1 → GivesIn seen k state None)
     (λ given. SettlesBy k.stops at.0 at.1 × GivesIn seen k state (Some given))
 
--- it has given the next match without a read, or there is none
-abbrev pub ReadsItem : StreamReading → Option Occurrence → StreamReading → Type 0
-ReadsItem old found new = GivesRead old.stream found new.stream × (new.reader ≡ old.reader)
-
 -- how many items may follow at most: each match has a byte, and an error is the last one
 abbrev pub items_in : Phase → ℕ → ℕ
 items_in Open given = usize_max - given + 1

@@ -96,10 +96,6 @@ module _ (g : TrieView) where
   abbrev pub transition_target : Node → ℕ → Node
   transition_target v b = step g.kind g.patterns Yes v (plain_byte g.ignores_case b)
 
-  -- the patterns that equal the string of a node
-  abbrev pub anchored_matches : Node → List ℕ
-  anchored_matches v = matches g.kind g.patterns Yes v
-
   -- the patterns that end at a node
   abbrev pub all_matches : Node → List ℕ
   all_matches v = matches g.kind g.patterns No v
@@ -109,7 +105,7 @@ module _ (g : TrieView) where
     pub linked : Node
     pub leads : slice_get g.nodes link ≡ Some linked
     pub back : link ≤ s - 1
-    pub finds : all_matches v ≡ anchored_matches v ++ all_matches linked
+    pub finds : all_matches v ≡ matches g.kind g.patterns Yes v ++ all_matches linked
     pub useful : link ≢ DEAD → all_matches linked ≢ []
 
   -- the state with this number stands for the node: its transitions are the node's own, in ascending order of
@@ -131,7 +127,7 @@ module _ (g : TrieView) where
     pub back : FIRST_INNER ≤ s → t.fail < s
     pub patterns_ordered : t.patterns ≤ t.patterns_end
     pub within : t.patterns_end ≤ length g.order
-    pub patterns : state_patterns g.order t ≡ anchored_matches v
+    pub patterns : state_patterns g.order t ≡ matches g.kind g.patterns Yes v
     pub links : Links s v t.output_link
     pub long : t.depth ≡ depth v
     pub outer : s < FIRST_INNER → depth v ≡ 0

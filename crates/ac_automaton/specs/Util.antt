@@ -7,7 +7,7 @@ unfoldable pub use Rattle.ac_util.specs.Classes.{class_of, classes_of, singleton
 pub use Rattle.ac_util.specs.Device.{HasCause, Reading, Reads, ReadsAll, ReadsSome, WritesAll, WritesUntilFailure, Writing}
 pub use Rattle.ac_util.specs.Listing.{item_at, place_after}
 unfoldable pub use Rattle.ac_util.specs.Listing.{all}
-pub use Rattle.ac_util.specs.Node.{credit, looks, looks_by, looks_within, equal_to, matches, begins_with_pattern, depth, failure, first_node, is_empty, is_leftmost, is_node, last_start, Node, open_suffixes, participants, participates, reached, starting_by, step, suffixes, ending, found_at_end, plain_patterns, text}
+pub use Rattle.ac_util.specs.Node.{credit, looks, looks_by, looks_within, equal_to, matches, begins_with_pattern, depth, failure, first_node, is_empty, is_leftmost, is_node, last_start, Node, open_suffixes, participants, participates, reached, starting_by, step, suffixes, ending, plain_patterns, text}
 pub use Rattle.ac_util.specs.Occurrence.{Occurrence, occurrence, plain, plain_byte, from, Occurs, pattern_of, Search}
 pub use Rattle.ac_util.specs.Pick.{IsPick, order_of}
 unfoldable pub use Rattle.ac_util.specs.Pick.{pick}

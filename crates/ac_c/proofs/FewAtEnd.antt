@@ -1,8 +1,6 @@
 -- At most one occurrence of each pattern ends at a place.
-use Rattle.std.proofs.Common.{◌≡◌, ℕ, ◌<◌, ◌≤◌, false, List, [], ◌∷◌, length, map, eqb, refl, ap, sym, ◌∙◌, arith, inl, inr}
+use Rattle.ac_util.proofs.Prelude.{◌≡◌, ℕ, ◌<◌, ◌≤◌, false, List, [], ◌∷◌, length, map, eqb, refl, ap, sym, ◌∙◌, arith, inl, inr, ne_eqb, length-map}
 use Rattle.std.specs.List.{IsDistinct}
-use Rattle.std.proofs.lemmas.Bool.{ne_eqb}
-use Rattle.std.proofs.lemmas.List.{length-map}
 use Rattle.std.proofs.lemmas.Map.Steps.{length-le_from_distinct_below}
 use Rattle.ac_util.specs.Prelude.{IsBefore, Occurrence, Occurs, pattern_of, Search}
 use Rattle.ac_util.proofs.Lists.{IsIn, IsOrdered, IsIn-from_map}

@@ -1,6 +1,5 @@
 -- Whether something is found doesn't depend on which match is picked.
-use Rattle.std.proofs.Common.{◌≡◌, refl, IsTrue, is_some, Option, None, Some}
-use Rattle.std.proofs.lemmas.Bool.{false≢true}
+use Rattle.ac_util.proofs.Prelude.{◌≡◌, refl, IsTrue, is_some, Option, None, Some, false≢true}
 use Rattle.ac_search.specs.Occurrence.{Occurrence, Search}
 use Rattle.ac_search.specs.Pick.{pick}
 use Rattle.ac_search.specs.declared.MatchKind.{MatchKind}

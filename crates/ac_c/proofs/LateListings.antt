@@ -1,5 +1,5 @@
 -- Which occurrences end at a place or later, and from where the listing has to be made again for these.
-use Rattle.std.proofs.Common.{◌≡◌, ℕ, ◌<◌, ◌≤◌, true, false, filter, sym, arith, rules, tests}
+use Rattle.ac_util.proofs.Prelude.{◌≡◌, ℕ, ◌<◌, ◌≤◌, true, false, filter, sym, arith, rules, tests}
 use Rattle.ac_util.specs.declared.search.Anchored.TheVariants.{No}
 use Rattle.ac_util.specs.Prelude.{all, from, IsBefore, Occurrence, Occurs, Search}
 use Rattle.ac_util.proofs.Lists.{IsIn-filter, IsIn-from_filter, IsOrdered-filter, IsOrdered-unique}

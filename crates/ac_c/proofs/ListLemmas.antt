@@ -1,8 +1,5 @@
 -- Filters, orders and elements of lists.
-use Rattle.std.proofs.Common.{◌≡◌, ℕ, ◌+◌, Bool, true, false, ◌||◌, List, [], ◌∷◌, ◌++◌, length, drop, filter, eqb, refl, ap, sym, ◌∙◌, subst, arith, inl, inr, ◌⊎◌, All, rules, tests}
-use Rattle.std.specs.List.{AllByRecursion, list_any}
-use Rattle.std.proofs.lemmas.List.{append_assoc, drop-drop}
-use Rattle.std.proofs.lemmas.Grind.{common_steps}
+use Rattle.ac_util.proofs.Prelude.{◌≡◌, ℕ, ◌+◌, Bool, true, false, ◌||◌, List, [], ◌∷◌, ◌++◌, length, drop, filter, eqb, refl, ap, sym, ◌∙◌, subst, arith, inl, inr, ◌⊎◌, All, rules, tests, AllByRecursion, list_any, append_assoc, drop-drop, common_steps}
 use Rattle.ac_util.proofs.Lists.{IsIn, IsOrdered, IsIn-append_left, Contains-from_IsIn}
 
 -- all is kept where each element passes

@@ -1,5 +1,5 @@
 -- A batch of the listing that is made again from a later start gives what was due of the whole one.
-use Rattle.std.proofs.Common.{◌≡◌, ℕ, ◌+◌, ◌-◌, ◌<◌, ◌≤◌, List, ◌++◌, drop, length, map, max, take, sym, ap, ◌∙◌, arith}
+use Rattle.ac_util.proofs.Prelude.{◌≡◌, ℕ, ◌+◌, ◌-◌, ◌<◌, ◌≤◌, List, ◌++◌, drop, length, map, max, take, sym, ap, ◌∙◌, arith}
 use Rattle.ac_search.specs.Occurrence.{Occurrence, Search, from}
 use Rattle.ac_search.specs.Patterns.{longest_len}
 use Rattle.ac_search.specs.declared.Anchored.TheVariants.{No}

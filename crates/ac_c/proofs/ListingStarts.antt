@@ -1,6 +1,5 @@
 -- From where the listing is made again, and where it ends.
-use Rattle.std.proofs.Common.{◌≡◌, ℕ, ◌-◌, ◌<◌, ◌≤◌, Bool, List, [], ◌∷◌, drop, filter, max, refl, ap, ◌∙◌, arith, Option, None, Some}
-use Rattle.std.proofs.lemmas.List.{drop_all}
+use Rattle.ac_util.proofs.Prelude.{◌≡◌, ℕ, ◌-◌, ◌<◌, ◌≤◌, Bool, List, [], ◌∷◌, drop, filter, max, refl, ap, ◌∙◌, arith, Option, None, Some, drop_all}
 use Rattle.ac_util.specs.declared.search.Anchored.{Anchored}
 use Rattle.ac_util.specs.declared.search.Anchored.TheVariants.{No, Yes}
 use Rattle.ac_util.specs.declared.search.MatchKind.{MatchKind}

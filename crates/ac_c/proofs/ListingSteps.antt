@@ -1,8 +1,5 @@
 -- How a listing goes on, by what it has passed over.
-use Rattle.std.proofs.Common.{◌≡◌, ℕ, ◌+◌, ◌<◌, ◌≤◌, List, [], ◌∷◌, ◌++◌, length, drop, filter, ap, sym, ◌∙◌, subst, arith, inl, inr, All}
-use Rattle.std.proofs.Math.Seq.{drop-append_seam}
-use Rattle.std.proofs.lemmas.Bool.Decides.{eqb_tells}
-use Rattle.std.proofs.lemmas.List.Elements.{filter-append, All-append, All-cons, All-nil, All-weaker}
+use Rattle.ac_util.proofs.Prelude.{◌≡◌, ℕ, ◌+◌, ◌<◌, ◌≤◌, List, [], ◌∷◌, ◌++◌, length, drop, filter, ap, sym, ◌∙◌, subst, arith, inl, inr, All, drop-append_seam, eqb_tells, filter-append, All-append, All-cons, All-nil, All-weaker}
 use Rattle.ac_util.specs.Prelude.{all, IsBefore, Occurrence, Occurs, Search}
 use Rattle.ac_util.proofs.Lists.{IsIn, IsOrdered, IsIn-from_filter, IsIn-append_left, IsOrdered-filter, filter-none}
 use Rattle.ac_util.proofs.Listing.{all-only, all-ordered}

@@ -1,7 +1,5 @@
 -- A number that stands for something.
-use Rattle.std.proofs.Common.{◌≡◌, ℕ, true, List, length, nat_lt, Some, slice_get, slice_index_or}
-use Rattle.std.proofs.lemmas.Bool.{lt-ltb}
-use Rattle.std.proofs.lemmas.Option.{get_or_from_slice_get, slice_get_within}
+use Rattle.ac_util.proofs.Prelude.{◌≡◌, ℕ, true, List, length, nat_lt, Some, slice_get, slice_index_or, lt-ltb, get_or_from_slice_get, slice_get_within}
 
 -- what a list has at a number is what the number stands for
 pub named : {X : Type 0} (xs : List X) (n : ℕ) (x other : X) → slice_get xs n ≡ Some x

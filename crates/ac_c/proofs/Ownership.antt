@@ -1,4 +1,6 @@
--- Machine values and ghost steps of `Handle`, `RawBox` and `Reader`, for the proofs by hand in `handle` and `reader`.
+-- Machine values and ghost steps of `Handle`, `RawBox` and `Reader`, and why they may cross threads, for the proofs by hand in
+-- `handle` and `reader`.
+pub mod Crosses
 pub mod Held
 pub mod HandleValues
 pub mod RawBoxValues

@@ -1,7 +1,5 @@
 -- How many texts there are.
-use Rattle.std.proofs.Common.{◌≡◌, ℕ, suc, List, [], ◌∷◌, length, refl, sym, ap, ◌∙◌}
-use Rattle.std.specs.Borrow.{Bor}
-use Rattle.std.proofs.lemmas.List.{length-map}
+use Rattle.ac_util.proofs.Prelude.{◌≡◌, ℕ, suc, List, [], ◌∷◌, length, refl, sym, ap, ◌∙◌, Bor, length-map}
 use Rattle.ac_search.specs.Patterns.{bytes_of}
 use Rattle.ac_c.specs.Texts.{texts_in}
 

@@ -1,5 +1,5 @@
 -- What is left of a walk at a cursor; past the span nothing is.
-use Rattle.std.proofs.Common.{◌≡◌, refl, ap, ◌∙◌, ℕ, ◌<◌, Option, None, Some, arith, []}
+use Rattle.ac_util.proofs.Prelude.{◌≡◌, refl, ap, ◌∙◌, ℕ, ◌<◌, Option, None, Some, arith, []}
 use Rattle.ac_search.specs.Occurrence.{Occurrence, Search, from}
 use Rattle.ac_search.specs.Walk.{next_match, walk_after}
 use Rattle.ac_search.specs.declared.MatchKind.{MatchKind}

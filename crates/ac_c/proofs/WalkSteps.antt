@@ -1,6 +1,5 @@
 -- A walk takes the next match after a cursor.
-use Rattle.std.proofs.Common.{◌≡◌, ◌≢◌, ◌⊎◌, inl, inr, ℕ, ◌==◌, if◌then◌else◌, Bool, true, false, ap, sym, ◌∙◌, subst, Option, None, Some, arith}
-use Rattle.std.proofs.lemmas.Grind.{common_steps}
+use Rattle.ac_util.proofs.Prelude.{◌≡◌, ◌≢◌, ◌⊎◌, inl, inr, ℕ, ◌==◌, if◌then◌else◌, Bool, true, false, ap, sym, ◌∙◌, subst, Option, None, Some, arith, common_steps}
 use Rattle.ac_search.specs.Iterators.{GoesOn, Walking}
 use Rattle.ac_search.specs.Occurrence.{Occurrence, Search, from}
 use Rattle.ac_search.specs.Pick.{pick}

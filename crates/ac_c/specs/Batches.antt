@@ -10,7 +10,7 @@ use Rattle.ac_search.specs.declared.MatchKind.{MatchKind}
 use Rattle.ac_c.specs.declared.search.Cursor.{Cursor}
 use Rattle.ac_c.specs.declared.search.FoundMatch.{FoundMatch}
 use Rattle.ac_c.specs.declared.search.Span.{Span}
-use Rattle.ac_c.specs.Searches.{in_span, input_by, is_set, match_of}
+use Rattle.ac_c.specs.Searches.{in_span, input_by, match_of}
 
 -- where the match before a cursor of a walk ended, or None where there was none
 abbrev pub last_of : Cursor → Option ℕ
@@ -31,7 +31,7 @@ listing_from q cursor = drop cursor.given (filter (ends_from cursor.at) (all q))
 -- the matches that are due at a cursor in a walk over a span
 abbrev pub walk_due : Searcher → List ℕ → Span → Cursor → List Occurrence
 walk_due searcher haystack span cursor =
-    walk_from (order_of searcher.built.kind (is_set span.earliest))
+    walk_from (order_of searcher.built.kind (span.earliest == 1))
     (search_in searcher.built (input_by haystack span)) (in_span span.start cursor)
 
 -- the occurrences that are due there in its listing

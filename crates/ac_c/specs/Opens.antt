@@ -13,10 +13,6 @@ use Rattle.ac_c.specs.Texts.{are_ends, texts_in}
 abbrev pub IsOpened : Options → List ℕ → List ℕ → Searcher → Type 0
 IsOpened options bytes ends searcher = IsBuilt (settings_by options) (texts_in bytes 0 ends) searcher
 
--- the handle holds one
-abbrev pub Holds : Options → List ℕ → List ℕ → Option Searcher → Type 0
-Holds options bytes ends held = MatchOption held ⊥ (IsOpened options bytes ends)
-
 -- LIMIT where a limit refuses a build, else OK
 abbrev pub limit_status : Option BuildError → ℤ
 limit_status None = OK

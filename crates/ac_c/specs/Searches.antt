@@ -16,18 +16,14 @@ is_input haystack span =
     nat_le span.start span.end && nat_le span.end (length haystack)
     && nat_le span.anchored 1 && nat_le span.earliest 1
 
--- a flag is set
-abbrev pub is_set : ℕ → Bool
-is_set flag = flag == 1
-
 -- the input that it asks for
 abbrev pub input_by : List ℕ → Span → InputView
 input_by haystack span = record {
   haystack = haystack;
   start = span.start;
   end = span.end;
-  anchored = if is_set span.anchored then Yes else No;
-  earliest = is_set span.earliest;
+  anchored = if span.anchored == 1 then Yes else No;
+  earliest = span.earliest == 1;
 }
 
 -- the occurrence that a match of C is

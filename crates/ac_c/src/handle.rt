@@ -1,7 +1,7 @@
 //! A searcher on the heap, or none, as one address that C holds.
 //!
 //! What `Handle` and `RawBox` own is proved by hand, since they keep a box as a bare address.
-ghost use Rattle.std.specs.Prelude.{◌≡◌, MatchOption};
+ghost use Rattle.std.specs.Prelude.{◌≡◌, IfOk, MatchOption};
 ghost use Rattle.std.specs.declared.option.Option.{Option};
 ghost use Rattle.std.specs.declared.option.Option.TheVariants.{None, Some};
 ghost use Rattle.ac_search.specs.Searchers.{Searcher};
@@ -9,14 +9,14 @@ ghost use Rattle.ac_c.specs.Ownership.{held, searcher_row};
 
 use ac_search::AhoCorasick;
 use raw_box::RawBox;
-use std::alloc::Global;
-use std::marker::Model;
+use std::alloc::{AllocError, Global};
+use std::marker::{Model, Send};
 use std::ptr::null_mut;
 
 pub mod raw_box;
 
-/// A searcher on the heap, or none where the address is null. C sees a struct of the address alone, and may move it, but
-/// not copy it.
+/// A searcher on the heap, or none where the address is null. C sees a struct of the address alone, and may move it, also
+/// to another thread, but not copy it.
 #[repr(C)]
 pub struct Handle {
     at: *mut u8,
@@ -29,6 +29,8 @@ impl Model for Handle {
     ghost also_owns = { λ h. held searcher_row h.alloc h.at h.searcher };
 }
 
+unsafe impl Send for Handle {}
+
 impl Handle {
     /// Returns a handle that holds no searcher.
     pub fn empty(alloc: Global) -> Handle
@@ -38,6 +40,17 @@ impl Handle {
             at: null_mut(),
             alloc,
         }
+    }
+
+    /// Returns a handle that holds a searcher.
+    ///
+    /// # Errors
+    /// `AllocError` where there is no memory for its box.
+    pub fn new(alloc: Global, searcher: AhoCorasick<Global>) -> Result<Handle, AllocError>
+        ensures { IfOk result (λ handle. handle.searcher ≡ Some searcher) }
+    {
+        let boxed = Box::new(alloc, searcher)?;
+        Ok(Handle::of(RawBox::of(boxed)))
     }
 
     /// Returns a handle that holds the searcher of a box.

@@ -1,6 +1,8 @@
-//! What follows from the definitions of what is due, as the contract of a function that does nothing.
+//! What C relies on, and what follows from the definitions of what is due, as contracts of functions that do nothing.
+ghost use Rattle.std.specs.Prelude.{◌≡◌};
 ghost use Rattle.ac_c.specs.Batches.{BeginsWithAll, listing_due, walk_due};
 ghost use Rattle.ac_c.specs.Searches.{overlapping_in, walked_in};
+ghost use Rattle.ac_c.specs.declared.status.TheConstants.{ANCHORED, ARGUMENTS, FOUND, LIMIT, MEMORY, OK, OVERLAPPING, UNANCHORED};
 
 /// At the start of a span or before it, where nothing was given, all matches of the walk over the span are due, and all
 /// occurrences of its listing.
@@ -9,4 +11,11 @@ ghost use Rattle.ac_c.specs.Searches.{overlapping_in, walked_in};
 pub fn batches_begin_with_all()
     ensures walk { BeginsWithAll walk_due walked_in }
     ensures listing { BeginsWithAll listing_due overlapping_in }
+{}
+
+/// The statuses have these numbers, which the header of the C library names.
+pub fn statuses_are_numbered()
+    ensures done { (OK ≡ 0) × (FOUND ≡ 1) }
+    ensures wrong { (ARGUMENTS ≡ 2) × (MEMORY ≡ 3) × (LIMIT ≡ 4) }
+    ensures refused { (ANCHORED ≡ 5) × (UNANCHORED ≡ 6) × (OVERLAPPING ≡ 7) }
 {}

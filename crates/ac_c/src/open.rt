@@ -1,9 +1,8 @@
 //! The build of a searcher, and its end.
-ghost use Rattle.std.specs.Prelude.{◌≡◌, ◌≢◌};
-ghost use Rattle.ac_c.specs.Opens.{AnswersOpened, Holds, IsStatusOrMemory, open_status};
+ghost use Rattle.std.specs.Prelude.{◌≡◌, ◌≢◌, MatchOption};
+ghost use Rattle.ac_c.specs.Opens.{AnswersOpened, IsStatusOrMemory, open_status, IsOpened};
 
 use crate::handle::Handle;
-use crate::handle::raw_box::RawBox;
 use crate::options::Options;
 use crate::status::{ARGUMENTS, LIMIT, MEMORY, OK};
 use crate::texts::{are_ends, texts_in};
@@ -34,16 +33,16 @@ pub extern "C" fn ac_raw_open(
     out: &mut Handle,
 ) -> i32
     ensures status { IsStatusOrMemory (open_status options.now bytes.now ends.now) result }
-    ensures opened { result ≡ OK → Holds options.now bytes.now ends.now out.new.searcher }
+    ensures opened { result ≡ OK → MatchOption out.new.searcher ⊥ (IsOpened options.now bytes.now ends.now) }
     ensures otherwise { result ≢ OK → out.new ≡ out.old }
 {
     let searcher = match opened(alloc, options, bytes, ends) {
         Ok(searcher) => searcher,
         Err(status) => return status,
     };
-    match Box::new(alloc, searcher) {
-        Ok(boxed) => {
-            *out = Handle::of(RawBox::of(boxed));
+    match Handle::new(alloc, searcher) {
+        Ok(handle) => {
+            *out = handle;
             OK
         }
         Err(_) => MEMORY,

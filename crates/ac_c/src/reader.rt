@@ -5,12 +5,12 @@ ghost use Rattle.std.specs.Prelude.{ℕ};
 ghost use Rattle.ac_search.specs.Searchers.{Searcher};
 ghost use Rattle.ac_c.specs.Ownership.{part_owns, searcher_row};
 
-use std::marker::Model;
+use std::marker::{Model, Send};
 
 mod lend;
 
 /// The right to read the searcher of a handle, whose address it has. C makes one of a handle that isn't empty, and uses it
-/// no longer than the handle.
+/// no longer than the handle. Each call has its own, in any thread: it owns a share of the searcher.
 #[repr(C)]
 #[derive(Drop)]
 pub struct Reader {
@@ -27,3 +27,5 @@ pub struct Reader {
 impl Model for Reader {
     ghost also_owns = { λ r. part_owns searcher_row r.at r.searcher r.lifetime r.parts };
 }
+
+unsafe impl Send for Reader {}

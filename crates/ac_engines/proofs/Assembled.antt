@@ -1,15 +1,10 @@
 -- A DFA whose rows are laid out and filled.
-use Rattle.std.proofs.Common.{◌≡◌, ◌≢◌, ◌⊎◌, inl, inr, ℕ, zero, suc, ◌+◌, ◌-◌, ◌*◌, ◌^◌, ◌<◌, ◌≤◌, Bool, true, false, List, [], ◌∷◌, length, slice_index_or, refl, ap, sym, ◌∙◌, arith, Some, None, rules}
-use Rattle.std.proofs.lemmas.Option.{slice_get_within}
-use Rattle.std.proofs.lemmas.Bool.{cases_lt}
-use Rattle.std.proofs.lemmas.Grind.{common_steps}
-use Rattle.ac_automaton.specs.Util.{alphabet_len, AreClasses, Built, class_at, GREATEST, IsNode, Node, SetsApart, start_refusal, StartKind, state_count, stride, stride2}
+use Rattle.ac_util.proofs.Prelude.{◌≡◌, ◌≢◌, ◌⊎◌, inl, inr, ℕ, zero, suc, ◌+◌, ◌-◌, ◌*◌, ◌^◌, ◌<◌, ◌≤◌, Bool, true, false, List, [], ◌∷◌, length, slice_index_or, refl, ap, sym, ◌∙◌, arith, Some, None, rules, slice_get_within, cases_lt, common_steps}
+use Rattle.ac_engines.specs.Prelude.{alphabet_len, AreClasses, Built, class_at, GREATEST, IsNode, Node, SetsApart, start_refusal, StartKind, state_count, stride, stride2, AreNodes, plain_of, Trie, anchored_shift, classes_by, DfaView, FilledUpTo, Filling, HasMatchesAmong, HasRow, IsDfa, IsFilled, IsLayout, MayFill, first_row_in, rows_refusal, row_input, table_rows, width}
 use Rattle.ac_util.specs.declared.search.Anchored.{Anchored}
 use Rattle.ac_util.proofs.ClassLists.{class_at-below, classes_of-AreClasses, classes_of-set_apart, singletons-AreClasses, singletons-set_apart}
 use Rattle.ac_util.proofs.NodeCount.{inner_nodes-has}
 use Rattle.ac_util.proofs.StrideLemmas.{stride-enough}
-use Rattle.ac_automaton.specs.Prelude.{AreNodes, plain_of, Trie}
-use Rattle.ac_engines.specs.Prelude.{anchored_shift, classes_by, DfaView, FilledUpTo, Filling, HasMatchesAmong, HasRow, IsDfa, IsFilled, IsLayout, MayFill, first_row_in, rows_refusal, row_input, table_rows, width}
 use Rattle.ac_engines.proofs.Numbered.{after-starts, place-row, place-start}
 use Rattle.ac_engines.proofs.Owning.{row-room}
 use Rattle.ac_engines.proofs.RowLists.{anchored_shift-rows}

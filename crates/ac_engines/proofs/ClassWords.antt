@@ -1,8 +1,5 @@
 -- Looking for a class in the class words of a sparse state.
-use Rattle.std.proofs.Common.{refl, ◌≡◌, ◌≢◌, ℕ, zero, suc, ◌+◌, ◌*◌, ◌/◌, ◌<◌, ◌≤◌, Bool, true, false, cond, List, [], ◌∷◌, length, map, drop, ap, sym, ◌∙◌, arith, All, slice_index_or, ◌==◌, rules}
-use Rattle.std.proofs.Math.Seq.{drop-cons, drop-nil}
-use Rattle.std.proofs.lemmas.List.{drop_all, drop-drop, drop-map, get_or-drop, get_or-map, length-drop, length-map}
-use Rattle.std.proofs.lemmas.Grind.{common_steps}
+use Rattle.ac_util.proofs.Prelude.{refl, ◌≡◌, ◌≢◌, ℕ, zero, suc, ◌+◌, ◌*◌, ◌/◌, ◌<◌, ◌≤◌, Bool, true, false, cond, List, [], ◌∷◌, length, map, drop, ap, sym, ◌∙◌, arith, All, slice_index_or, ◌==◌, rules, drop-cons, drop-nil, drop_all, drop-drop, drop-map, get_or-drop, get_or-map, length-drop, length-map, common_steps}
 use Rattle.ac_engines.specs.Prelude.{AreNamed, class_words, Edge, FAIL, first_of, target_by, word_of}
 
 -- the classes and the targets of transitions

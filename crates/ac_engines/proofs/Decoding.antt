@@ -1,11 +1,7 @@
 -- What packed states list is what their words spell.
-use Rattle.std.proofs.Common.{◌≡◌, ◌≢◌, ℕ, ◌+◌, ◌/◌, ◌%◌, ◌<◌, ◌≤◌, Bool, true, false, List, [], ◌∷◌, ◌++◌, length, drop, refl, ap, ◌∙◌, arith, ◌==◌, slice_index_or, rules}
+use Rattle.ac_util.proofs.Prelude.{◌≡◌, ◌≢◌, ℕ, ◌+◌, ◌/◌, ◌%◌, ◌<◌, ◌≤◌, Bool, true, false, List, [], ◌∷◌, ◌++◌, length, drop, refl, ap, ◌∙◌, arith, ◌==◌, slice_index_or, rules, cond-false, cond-true, eqb-false, eqb-true, div_ceil_times, common_steps, get_or-drop}
+use Rattle.ac_engines.specs.Prelude.{alphabet_len, BeginsWith, ContiguousView, DENSE, Format, match_list_at, match_list_words, matches_in, ONE_MATCH, PackedState, words_before_matches}
 use Rattle.std.specs.Int.{div_ceil}
-use Rattle.std.proofs.lemmas.Bool.{cond-false, cond-true, eqb-false, eqb-true}
-use Rattle.std.proofs.lemmas.Grind.{div_ceil_times, common_steps}
-use Rattle.std.proofs.lemmas.List.{get_or-drop}
-use Rattle.ac_util.specs.Classes.{alphabet_len}
-use Rattle.ac_engines.specs.Prelude.{BeginsWith, ContiguousView, DENSE, Format, match_list_at, match_list_words, matches_in, ONE_MATCH, PackedState, words_before_matches}
 use Rattle.ac_engines.proofs.PackedWords.{ListsFrom, dense-lists, form, sparse-lists}
 
 -- matches are read as they are spelled

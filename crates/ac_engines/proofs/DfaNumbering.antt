@@ -1,13 +1,7 @@
 -- The numbers of the first rows of a trie's states are those of a DFA's states in unanchored searches.
-use Rattle.std.proofs.Common.{◌≡◌, ◌≢◌, ◌⊎◌, ℕ, zero, suc, ◌^◌, ◌<◌, ◌≤◌, List, length, inl, inr, refl, ap, sym, ◌∙◌, arith, Some, slice_get, slice_index_or}
-use Rattle.std.proofs.lemmas.Bool.{cases_lt}
-use Rattle.std.proofs.lemmas.Option.{get_or_from_slice_get, slice_get-get_or, slice_get_within}
-use Rattle.ac_automaton.specs.Util.{Both, IsNode, No, Node, StartKind, Unanchored}
+use Rattle.ac_util.proofs.Prelude.{◌≡◌, ◌≢◌, ◌⊎◌, ℕ, zero, suc, ◌^◌, ◌<◌, ◌≤◌, List, length, inl, inr, refl, ap, sym, ◌∙◌, arith, Some, slice_get, slice_index_or, cases_lt, get_or_from_slice_get, slice_get-get_or, slice_get_within}
+use Rattle.ac_engines.specs.Prelude.{Both, IsNode, No, Node, StartKind, Unanchored, ANCHORED_START, AreNodes, IsNumbered, matches_of, plain_of, Trie, dfa_automaton, anchored_shift, DfaView, Filling, first_row_in, IsDfa, IsDfaState, list_at, MayFill}
 use Rattle.ac_util.specs.declared.search.StartKind.TheVariants.{Anchored as AnchoredAlone}
-use Rattle.ac_automaton.specs.declared.nfa.noncontiguous.state.TheConstants.{ANCHORED_START}
-use Rattle.ac_automaton.specs.Prelude.{AreNodes, IsNumbered, matches_of, plain_of, Trie}
-use Rattle.ac_engines.specs.Dfa.{dfa_automaton}
-use Rattle.ac_engines.specs.Prelude.{anchored_shift, DfaView, Filling, first_row_in, IsDfa, IsDfaState, list_at, MayFill}
 use Rattle.ac_engines.proofs.DfaPlaces.{same-place}
 use Rattle.ac_engines.proofs.NodeBytes.{named-node, named-place, stated}
 use Rattle.ac_engines.proofs.Numbered.{place-row}

@@ -1,9 +1,6 @@
 -- Where the rows of a DFA's strings begin is told by its table.
-use Rattle.std.proofs.Common.{◌≡◌, ℕ, ◌+◌, true, List, [], ◌∷◌, ◌++◌, ap, sym, ◌∙◌, arith, Some, None}
-use Rattle.std.proofs.lemmas.Grind.{common_steps}
-use Rattle.ac_automaton.specs.Util.{is_node, IsNode, MatchKind, No, Node, plain_byte, start_refusal, step}
-use Rattle.ac_automaton.specs.Prelude.{AreNodes, plain_of, Trie}
-use Rattle.ac_engines.specs.Dfa.{anchored_shift, DfaView, entry, IsDfa, number_of, stride_of}
+use Rattle.ac_util.proofs.Prelude.{◌≡◌, ℕ, ◌+◌, true, List, [], ◌∷◌, ◌++◌, ap, sym, ◌∙◌, arith, Some, None, common_steps}
+use Rattle.ac_engines.specs.Prelude.{is_node, IsNode, MatchKind, No, Node, plain_byte, start_refusal, step, AreNodes, plain_of, Trie, anchored_shift, DfaView, entry, IsDfa, number_of, stride_of}
 use Rattle.ac_engines.proofs.NodeBytes.{by-last, front-node, last-plain, last-small}
 
 -- an unanchored search goes from a string to the longer one by a byte that leads on

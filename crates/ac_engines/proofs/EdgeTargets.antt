@@ -1,11 +1,8 @@
 -- Where a state's transitions lead by the class of a byte.
-use Rattle.std.proofs.Common.{◌≡◌, ◌≢◌, inl, inr, ℕ, ◌<◌, Bool, true, false, List, [], ◌∷◌, ◌++◌, map, refl, ap, sym, ◌∙◌, Some, Contains, ◌==◌, rules}
-use Rattle.std.proofs.lemmas.Bool.{false≢true, eqb-true, eq-eqb, cond-true, cond-false}
-use Rattle.ac_automaton.specs.Util.{class_at, plain_byte, SetsApart}
+use Rattle.ac_util.proofs.Prelude.{◌≡◌, ◌≢◌, inl, inr, ℕ, ◌<◌, Bool, true, false, List, [], ◌∷◌, ◌++◌, map, refl, ap, sym, ◌∙◌, Some, Contains, ◌==◌, rules, false≢true, eqb-true, eq-eqb, cond-true, cond-false}
+use Rattle.ac_engines.specs.Prelude.{class_at, plain_byte, SetsApart, leads_on, transition_bytes_of, ContiguousView, Edge, edges_of, Places, target_by}
 use Rattle.ac_util.proofs.ClassLemmas.{stands-from_node}
 use Rattle.ac_util.proofs.Lists.{Contains-from_IsIn, IsIn, IsIn-from_Contains}
-use Rattle.ac_automaton.specs.Tries.{leads_on, transition_bytes_of}
-use Rattle.ac_engines.specs.Prelude.{ContiguousView, Edge, edges_of, Places, target_by}
 use Rattle.ac_engines.proofs.Filled.{transition_bytes_of-has, transition_bytes_of-only, transition_bytes_of-small}
 
 module _ (classes : List ℕ) (to : ℕ → ℕ) (default_target : ℕ) where

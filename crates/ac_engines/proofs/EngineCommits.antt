@@ -1,13 +1,6 @@
 -- The commits of the engines that are built from a trie.
-use Rattle.std.proofs.Common.{◌≡◌, ℕ, List, ap}
-use Rattle.ac_automaton.specs.Util.{Node}
-use Rattle.ac_automaton.specs.Commits.{CommitsView, HasCommits}
-use Rattle.ac_automaton.specs.Prelude.{AreNodes}
-use Rattle.ac_automaton.specs.Tries.{automaton_of}
-use Rattle.ac_engines.specs.Commits.{AreRenumbered}
-use Rattle.ac_engines.specs.Contiguous.{contiguous_automaton}
-use Rattle.ac_engines.specs.Dfa.{dfa_automaton}
-use Rattle.ac_engines.specs.Prelude.{AreReady, ContiguousView, DfaView, Filling, first_row_in, IsContiguous, IsDfa, MayFill, Packer, places_of}
+use Rattle.ac_util.proofs.Prelude.{◌≡◌, ℕ, List, ap}
+use Rattle.ac_engines.specs.Prelude.{Node, CommitsView, HasCommits, AreNodes, automaton_of, AreRenumbered, contiguous_automaton, dfa_automaton, AreReady, ContiguousView, DfaView, Filling, first_row_in, IsContiguous, IsDfa, MayFill, Packer, places_of}
 use Rattle.ac_engines.proofs.DfaNumbering.{dfa-numbering}
 use Rattle.ac_engines.proofs.PackedNumbering.{packed-numbering}
 use Rattle.ac_engines.proofs.Renumbered.{commits-moved}

@@ -1,14 +1,9 @@
 -- The row of a node once its own transitions are set.
-use Rattle.std.proofs.Common.{◌≡◌, ◌≢◌, ◌⊎◌, ℕ, ◌+◌, ◌<◌, ◌≤◌, Bool, true, false, List, [], ◌∷◌, slice_index_or, refl, ap, sym, ◌∙◌, arith, Some, Contains, rules}
-use Rattle.std.specs.List.{range_with_len}
-use Rattle.std.proofs.lemmas.Bool.{false≢true}
-use Rattle.std.proofs.lemmas.Grind.{common_steps}
+use Rattle.ac_util.proofs.Prelude.{◌≡◌, ◌≢◌, ◌⊎◌, ℕ, ◌+◌, ◌<◌, ◌≤◌, Bool, true, false, List, [], ◌∷◌, slice_index_or, refl, ap, sym, ◌∙◌, arith, Some, Contains, rules, range_with_len, false≢true, common_steps}
+use Rattle.ac_engines.specs.Prelude.{Built, class_at, failure, No, Node, plain_byte, Yes, leads_on, transition_bytes_of, plain_of, step_of, EndsDead, entry, HasSet, IsFilled, row_at, SameBeside, RowInput}
 use Rattle.ac_util.specs.declared.search.Anchored.{Anchored}
-use Rattle.ac_automaton.specs.Util.{Built, class_at, failure, No, Node, plain_byte, Yes}
 use Rattle.ac_util.proofs.Failures.{step-own, step-failure}
 use Rattle.ac_util.proofs.Lists.{Contains-from_IsIn, IsIn-filter, IsIn-from_Contains, IsIn-from_filter, IsIn-from_range, IsIn-range}
-use Rattle.ac_automaton.specs.Prelude.{leads_on, transition_bytes_of, plain_of, step_of}
-use Rattle.ac_engines.specs.Prelude.{EndsDead, entry, HasSet, IsFilled, row_at, SameBeside, RowInput}
 
 -- the bytes that lead on are those that pass the test
 pub transition_bytes_of-has : (built : Built) (u : Node) (b : ℕ) → b < 256 → leads_on built u b ≡ true → Contains (transition_bytes_of built u) b

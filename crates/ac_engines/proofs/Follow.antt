@@ -1,11 +1,8 @@
 -- A walk along the failure targets of a contiguous NFA: it keeps where the byte leads at last, and counts its looks.
-use Rattle.std.proofs.Common.{◌≡◌, ◌≢◌, ℕ, ◌+◌, ◌<◌, ◌≤◌, List, drop, length, refl, arith, Some, None, rules}
-use Rattle.std.proofs.lemmas.Grind.{common_steps}
-use Rattle.ac_automaton.specs.Util.{alphabet_len, Counts, depth, GREATEST, IsNode, more_looks, No, Node, Yes}
+use Rattle.ac_util.proofs.Prelude.{◌≡◌, ◌≢◌, ℕ, ◌+◌, ◌<◌, ◌≤◌, List, drop, length, refl, arith, Some, None, rules, common_steps}
+use Rattle.ac_engines.specs.Prelude.{alphabet_len, Counts, depth, GREATEST, IsNode, more_looks, No, Node, Yes, looks_of, plain_of, step_of, BeginsWith, ContiguousView, FAIL, IsContiguousState, node_format, packed_at}
 use Rattle.ac_util.specs.declared.search.Anchored.{Anchored}
-use Rattle.ac_automaton.specs.Prelude.{looks_of, plain_of, step_of}
 use Rattle.ac_automaton.proofs.Follows.{more_looks-none, more_looks-twice}
-use Rattle.ac_engines.specs.Prelude.{BeginsWith, ContiguousView, FAIL, IsContiguousState, node_format, packed_at}
 use Rattle.ac_engines.proofs.NodeLengths.{node-length}
 use Rattle.ac_engines.proofs.Numbers.{step-node}
 use Rattle.ac_engines.proofs.PackedSteps.{reads, target_of}

@@ -1,8 +1,6 @@
 -- The states after the starts, and the strings that they stand for.
-use Rattle.std.proofs.Common.{◌≡◌, ◌≢◌, ℕ, ◌≤◌, List, [], ◌∷◌, Some, refl, ◌∙◌, slice_get}
-use Rattle.std.proofs.lemmas.Option.{slice_get_within}
-use Rattle.ac_util.specs.Node.{Node}
-use Rattle.ac_automaton.specs.Prelude.{AreNodes, Trie}
+use Rattle.ac_util.proofs.Prelude.{◌≡◌, ◌≢◌, ℕ, ◌≤◌, List, [], ◌∷◌, Some, refl, ◌∙◌, slice_get, slice_get_within}
+use Rattle.ac_engines.specs.Prelude.{Node, AreNodes, Trie}
 use Rattle.ac_engines.proofs.Numbered.{inner-string}
 
 -- the node is a string that isn't empty

@@ -1,13 +1,8 @@
 -- A DFA whose states all have their rows is laid out.
-use Rattle.std.proofs.Common.{◌≡◌, inl, inr, ℕ, ◌+◌, ◌*◌, ◌/◌, ◌<◌, ◌≤◌, List, [], length, slice_index_or, ap, sym, ◌∙◌, arith, Some, None, slice_get, rules}
-use Rattle.std.proofs.lemmas.List.{get_or_past}
-use Rattle.std.proofs.lemmas.Option.{slice_get_within}
+use Rattle.ac_util.proofs.Prelude.{◌≡◌, inl, inr, ℕ, ◌+◌, ◌*◌, ◌/◌, ◌<◌, ◌≤◌, List, [], length, slice_index_or, ap, sym, ◌∙◌, arith, Some, None, slice_get, rules, get_or_past, slice_get_within, common_steps}
+use Rattle.ac_engines.specs.Prelude.{start_refusal, Yes, matches_of, anchored_shift, AreLaid, first_lists, IsLayout, row_list}
 use Rattle.std.proofs.lemmas.Nat.{div_below, le-div, mul-le}
-use Rattle.std.proofs.lemmas.Grind.{common_steps}
 use Rattle.ac_util.specs.declared.search.Anchored.{Anchored}
-use Rattle.ac_automaton.specs.Util.{start_refusal, Yes}
-use Rattle.ac_automaton.specs.Automata.{matches_of}
-use Rattle.ac_engines.specs.Prelude.{anchored_shift, AreLaid, first_lists, IsLayout, row_list}
 use Rattle.ac_engines.proofs.Numbers.{anchored_shift-small}
 use Rattle.ac_engines.proofs.LaidUpTo.{IsLaidUpTo, Plan, each, row-order}
 use Rattle.ac_engines.proofs.Laying.{long}

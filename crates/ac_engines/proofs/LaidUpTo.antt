@@ -1,10 +1,7 @@
 -- What it is that the first so many states of a trie have their rows.
-use Rattle.std.proofs.Common.{◌≡◌, ◌⊎◌, ℕ, ◌+◌, ◌-◌, ◌*◌, ◌^◌, ◌<◌, ◌≤◌, List, [], ◌∷◌, ◌++◌, length, slice_index_or, arith, Some, slice_get}
-use Rattle.std.proofs.lemmas.Grind.{common_steps}
+use Rattle.ac_util.proofs.Prelude.{◌≡◌, ◌⊎◌, ℕ, ◌+◌, ◌-◌, ◌*◌, ◌^◌, ◌<◌, ◌≤◌, List, [], ◌∷◌, ◌++◌, length, slice_index_or, arith, Some, slice_get, common_steps}
+use Rattle.ac_engines.specs.Prelude.{Built, Node, StartKind, state_count, Yes, AreNodes, matches_of, plain_of, Trie, anchored_shift, first_lists, row_lists, rows_each}
 use Rattle.ac_util.specs.declared.search.Anchored.{Anchored}
-use Rattle.ac_automaton.specs.Util.{Built, Node, StartKind, state_count, Yes}
-use Rattle.ac_automaton.specs.Prelude.{AreNodes, matches_of, plain_of, Trie}
-use Rattle.ac_engines.specs.Prelude.{anchored_shift, first_lists, row_lists, rows_each}
 use Rattle.ac_engines.proofs.RowLists.{each-rows}
 
 -- the node that a state stands for

@@ -1,10 +1,6 @@
 -- Laying out the rows of the states of a trie, one after another.
-use Rattle.std.proofs.Common.{◌≡◌, inl, inr, ℕ, ◌+◌, ◌-◌, ◌*◌, ◌<◌, ◌≤◌, List, [], ◌∷◌, ◌++◌, length, slice_index_or, ap, ◌∙◌, arith, Some, length-append, slice_get, rules}
-use Rattle.std.proofs.lemmas.Bool.{cases_eq}
-use Rattle.std.proofs.lemmas.List.{append_assoc, get_or-append-add}
-use Rattle.std.proofs.lemmas.Grind.{common_steps}
-use Rattle.ac_automaton.specs.Util.{GREATEST, Node}
-use Rattle.ac_engines.specs.Dfa.Layouts.{HasPlaced, IsAtBack, IsInFront, first_lists}
+use Rattle.ac_util.proofs.Prelude.{◌≡◌, inl, inr, ℕ, ◌+◌, ◌-◌, ◌*◌, ◌<◌, ◌≤◌, List, [], ◌∷◌, ◌++◌, length, slice_index_or, ap, ◌∙◌, arith, Some, length-append, slice_get, rules, cases_eq, append_assoc, get_or-append-add, common_steps}
+use Rattle.ac_engines.specs.Prelude.{GREATEST, Node, HasPlaced, IsAtBack, IsInFront, first_lists}
 use Rattle.ac_engines.proofs.RowLists.{each-room}
 use Rattle.ac_engines.proofs.LaidUpTo.{Apart, HasRows, IsLaidUpTo, Plan, each, kept, row-order}
 

@@ -1,14 +1,8 @@
 -- Listing the matches of a state that count, one after another.
-use Rattle.std.proofs.Common.{◌≡◌, ℕ, ◌-◌, ◌<◌, Bool, true, cond, List, [], ◌∷◌, ◌++◌, length, ap, subst, ◌∙◌, arith, All, rules}
-use Rattle.std.specs.List.{take_while}
-use Rattle.std.proofs.lemmas.List.{append_assoc}
-use Rattle.std.proofs.lemmas.List.Elements.{All-tail}
+use Rattle.ac_util.proofs.Prelude.{◌≡◌, ℕ, ◌-◌, ◌<◌, Bool, true, cond, List, [], ◌∷◌, ◌++◌, length, ap, subst, ◌∙◌, arith, All, rules, take_while, append_assoc, All-tail, common_steps}
+use Rattle.ac_engines.specs.Prelude.{depth, No, Node, pattern_of, MatchRest, is_due, IsState, IsTrieState, listed_within, matches_of, rest_in, stands-lists, Trie}
 use Rattle.std.proofs.lemmas.List.Sums.{take_while-cons}
-use Rattle.std.proofs.lemmas.Grind.{common_steps}
 use Rattle.ac_util.specs.declared.search.Anchored.{Anchored}
-use Rattle.ac_automaton.specs.Util.{depth, No, Node, pattern_of}
-use Rattle.ac_automaton.specs.declared.automaton.listing.MatchRest.{MatchRest}
-use Rattle.ac_automaton.specs.Prelude.{is_due, IsState, IsTrieState, listed_within, matches_of, rest_in, stands-lists, Trie}
 use Rattle.ac_automaton.proofs.Due.{counts, listed-due, listed-numbered}
 
 module _ (trie : Trie) where

@@ -1,14 +1,9 @@
 -- A node's matches are patterns of the list, each at most once, and no more than 256 bytes lead on from it.
-use Rattle.std.proofs.Common.{◌≡◌, ◌≢◌, ℕ, suc, zero, ◌<◌, ◌≤◌, not, List, [], ◌∷◌, length, take, inl, inr, Option, None, Some, refl, ap, arith, rules}
-use Rattle.std.specs.List.{All, range_with_len}
-use Rattle.std.proofs.lemmas.List.{length-map}
+use Rattle.ac_util.proofs.Prelude.{◌≡◌, ◌≢◌, ℕ, suc, zero, ◌<◌, ◌≤◌, not, List, [], ◌∷◌, length, take, inl, inr, Option, None, Some, refl, ap, arith, rules, All, range_with_len, length-map, length-range_with_len, common_steps}
+use Rattle.ac_engines.specs.Prelude.{Built, equal_to, last_start, matches, MatchKind, No, Node, open_suffixes, plain, starting_by, suffixes, leads_on, matches_of, transition_bytes_of, plain_of}
 use Rattle.std.proofs.lemmas.List.Filters.{length-filter_both}
-use Rattle.std.proofs.lemmas.List.FromFn.{length-range_with_len}
-use Rattle.std.proofs.lemmas.Grind.{common_steps}
-use Rattle.ac_automaton.specs.Util.{Built, equal_to, last_start, matches, MatchKind, No, Node, open_suffixes, plain, starting_by, suffixes}
 use Rattle.ac_util.proofs.Lists.{All-from_IsIn, IsIn, IsIn-from_flat_map, IsIn-range, IsOrdered, IsOrdered-flat_map}
 use Rattle.ac_util.proofs.Participants.{IsIn-from_equal_to, equal_to-ordered}
-use Rattle.ac_automaton.specs.Prelude.{leads_on, matches_of, transition_bytes_of, plain_of}
 use Rattle.ac_automaton.proofs.Counting.{length-le-from_IsOrdered}
 
 -- what is ordered by R is ordered by what R implies

@@ -1,7 +1,5 @@
 -- Reading the matches of a state in the words where they stand.
-use Rattle.std.proofs.Common.{refl, ◌≡◌, ◌≢◌, ℕ, ◌+◌, ◌-◌, ◌<◌, ◌≤◌, List, [], ◌∷◌, ◌++◌, length, arith, slice_index_or, rules}
-use Rattle.std.proofs.lemmas.List.{get_or_append_left, length-append}
-use Rattle.std.proofs.lemmas.Grind.{common_steps}
+use Rattle.ac_util.proofs.Prelude.{refl, ◌≡◌, ◌≢◌, ℕ, ◌+◌, ◌-◌, ◌<◌, ◌≤◌, List, [], ◌∷◌, ◌++◌, length, arith, slice_index_or, rules, get_or_append_left, length-append, common_steps}
 use Rattle.ac_engines.specs.Prelude.{match_list_words, ONE_MATCH}
 
 -- what the first word of some matches says: it is the only one of them, or their number

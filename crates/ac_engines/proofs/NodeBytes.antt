@@ -1,15 +1,9 @@
 -- The bytes of the strings that lead to nodes.
-use Rattle.std.proofs.Common.{◌≡◌, ◌≢◌, ℕ, zero, suc, ◌<◌, ◌≤◌, true, List, [], ◌∷◌, ◌++◌, length, length-append, inl, inr, refl, ap, sym, ◌∙◌, subst, arith, Some, nat_eq, ◌⊎◌}
-use Rattle.std.specs.List.{starts_with}
-use Rattle.std.proofs.lemmas.Option.{slice_get_within}
-use Rattle.ac_util.specs.Prelude.{participants}
+use Rattle.ac_util.proofs.Prelude.{◌≡◌, ◌≢◌, ℕ, zero, suc, ◌<◌, ◌≤◌, true, List, [], ◌∷◌, ◌++◌, length, length-append, inl, inr, refl, ap, sym, ◌∙◌, subst, arith, Some, nat_eq, ◌⊎◌, starts_with, slice_get_within}
+use Rattle.ac_engines.specs.Prelude.{participants, is_node, IsNode, Node, pattern_of, plain_byte, step, Yes, Transition, ANCHORED_START, START, AreNodes, IsNumbered, meaning_of, plain_of, Represents, state_at, transition_bytes, transitions_of, Trie}
 use Rattle.ac_util.proofs.Lists.{IsIn-from_Contains, IsIn-from_map}
 use Rattle.ac_util.proofs.NodeCount.{any_passes, inner_nodes-has, inner_nodes-only}
 use Rattle.ac_util.proofs.Participants.{is_node-front}
-use Rattle.ac_automaton.specs.Util.{is_node, IsNode, Node, pattern_of, plain_byte, step, Yes}
-use Rattle.ac_automaton.specs.declared.nfa.noncontiguous.state.Transition.{Transition}
-use Rattle.ac_automaton.specs.declared.nfa.noncontiguous.state.TheConstants.{ANCHORED_START, START}
-use Rattle.ac_automaton.specs.Prelude.{AreNodes, IsNumbered, meaning_of, plain_of, Represents, state_at, transition_bytes, transitions_of, Trie}
 use Rattle.ac_automaton.proofs.Branched.{transition_target-is}
 use Rattle.ac_automaton.proofs.Places.{place-of}
 use Rattle.ac_automaton.proofs.Prefixes.{starts_with-last}

@@ -1,8 +1,6 @@
 -- How long the strings of nodes are.
-use Rattle.std.proofs.Common.{ℕ, zero, suc, ◌≤◌, Bool, List, [], ◌∷◌, length, map, get_or, Some, arith, nat_eq}
-use Rattle.std.specs.List.{starts_with}
-use Rattle.std.proofs.lemmas.List.{length-map}
-use Rattle.ac_automaton.specs.Util.{IsNode, longest_len, MatchKind, participants, pattern_of, plain, plain_byte}
+use Rattle.ac_util.proofs.Prelude.{ℕ, zero, suc, ◌≤◌, Bool, List, [], ◌∷◌, length, map, get_or, Some, arith, nat_eq, starts_with, length-map}
+use Rattle.ac_engines.specs.Prelude.{IsNode, longest_len, MatchKind, participants, pattern_of, plain, plain_byte}
 use Rattle.ac_util.proofs.NodeCount.{any_passes}
 use Rattle.ac_util.proofs.Prefixes.{starts_with-length}
 

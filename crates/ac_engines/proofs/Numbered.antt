@@ -1,11 +1,7 @@
 -- Where the rows of the states of a trie stand.
-use Rattle.std.proofs.lemmas.Grind.{common_steps}
-use Rattle.std.proofs.Common.{◌≡◌, ◌≢◌, ℕ, zero, suc, ◌<◌, ◌≤◌, List, [], length, slice_index_or, arith, None, Some, slice_get, rules}
-use Rattle.std.proofs.lemmas.Option.{slice_get_within}
-use Rattle.ac_util.specs.Node.{Node}
+use Rattle.ac_util.proofs.Prelude.{common_steps, ◌≡◌, ◌≢◌, ℕ, zero, suc, ◌<◌, ◌≤◌, List, [], length, slice_index_or, arith, None, Some, slice_get, rules, slice_get_within}
+use Rattle.ac_engines.specs.Prelude.{Node, AreNodes, plain_of, Trie, Filling, HasRow, first_row_in}
 use Rattle.ac_util.proofs.NodeCount.{inner_nodes-only}
-use Rattle.ac_automaton.specs.Prelude.{AreNodes, plain_of, Trie}
-use Rattle.ac_engines.specs.Dfa.Filling.{Filling, HasRow, first_row_in}
 use Rattle.ac_engines.proofs.Places.{place-at}
 
 module _ (trie : Trie) (nodes : List Node) (h : AreNodes trie nodes) where

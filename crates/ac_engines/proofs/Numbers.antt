@@ -1,12 +1,9 @@
 -- What the number of a state says of the node that it stands for.
-use Rattle.std.proofs.Common.{◌≡◌, ℕ, ◌+◌, ◌<◌, ◌≤◌, Bool, true, false, List, [], ◌∷◌, ◌++◌, drop, refl, arith, length, slice_index_or, Some, None, rules}
+use Rattle.ac_util.proofs.Prelude.{◌≡◌, ℕ, ◌+◌, ◌<◌, ◌≤◌, Bool, true, false, List, [], ◌∷◌, ◌++◌, drop, refl, arith, length, slice_index_or, Some, None, rules, common_steps}
+use Rattle.ac_engines.specs.Prelude.{Both, class_at, failure, first_node, is_node, IsNode, MatchKind, No, Node, open_suffixes, StartKind, step, Unanchored, Yes, step_of, IsDfaState, DfaView, anchored_shift, stride_of}
 use Rattle.std.proofs.lemmas.Nat.{pow_pos}
-use Rattle.std.proofs.lemmas.Grind.{common_steps}
 use Rattle.ac_util.specs.declared.search.Anchored.{Anchored}
-use Rattle.ac_automaton.specs.Util.{Both, class_at, failure, first_node, is_node, IsNode, MatchKind, No, Node, open_suffixes, StartKind, step, Unanchored, Yes}
 use Rattle.ac_util.specs.declared.search.StartKind.TheVariants.{Anchored as AnchoredAlone}
-use Rattle.ac_automaton.specs.Automata.{step_of}
-use Rattle.ac_engines.specs.Dfa.{IsDfaState, DfaView, anchored_shift, stride_of}
 
 -- the first of some strings that leads to a node is one
 first_node-cons : (kind : MatchKind) (patterns : List (List ℕ)) (w : List ℕ) (ws : List (List ℕ)) (t : Bool)

@@ -1,12 +1,7 @@
 -- How one row of a DFA is filled.
-use Rattle.std.proofs.Common.{◌≡◌, ◌≢◌, ◌⊎◌, inl, inr, ℕ, ◌+◌, ◌<◌, ◌≤◌, Bool, true, false, cond, List, [], ◌∷◌, length, slice_get, slice_index_or, refl, ap, sym, ◌∙◌, arith, Some, None, if◌then◌else◌}
-use Rattle.std.specs.List.{CopiedTo, SameBelow, SameFrom}
-use Rattle.std.proofs.lemmas.Bool.{false≢true}
-use Rattle.std.proofs.lemmas.Grind.{common_steps}
-use Rattle.ac_automaton.specs.Util.{alphabet_len, class_at, failure, No, Node, plain_byte, Yes}
+use Rattle.ac_util.proofs.Prelude.{◌≡◌, ◌≢◌, ◌⊎◌, inl, inr, ℕ, ◌+◌, ◌<◌, ◌≤◌, Bool, true, false, cond, List, [], ◌∷◌, length, slice_get, slice_index_or, refl, ap, sym, ◌∙◌, arith, Some, None, if◌then◌else◌, CopiedTo, SameBelow, SameFrom, false≢true, common_steps}
+use Rattle.ac_engines.specs.Prelude.{alphabet_len, class_at, failure, No, Node, plain_byte, Yes, leads_on, transition_bytes_of, plain_of, step_of, anchored_shift, EndsDead, entry, Filling, HasFilled, HasRow, HasSet, IsFilled, MayFillRow, row_at, SameBeside, RowInput, row_input}
 use Rattle.ac_util.proofs.Reached.{step-nil, stops}
-use Rattle.ac_automaton.specs.Prelude.{leads_on, transition_bytes_of, plain_of, step_of}
-use Rattle.ac_engines.specs.Prelude.{anchored_shift, EndsDead, entry, Filling, HasFilled, HasRow, HasSet, IsFilled, MayFillRow, row_at, SameBeside, RowInput, row_input}
 use Rattle.ac_engines.proofs.Filled.{filled-anchored, filled-longer, transition_bytes_of-has, transition_bytes_of-only, past-set}
 use Rattle.ac_engines.proofs.StateRows.{narrow}
 

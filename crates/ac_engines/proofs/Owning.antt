@@ -1,15 +1,11 @@
 -- The rows of a state and of those to which its own transitions lead.
-use Rattle.std.proofs.Common.{◌≡◌, ◌≢◌, ℕ, ◌+◌, ◌≤◌, List, [], ◌∷◌, ◌++◌, length, take, slice_set, refl, arith, Some, None, Contains, slice_get, rules}
-use Rattle.std.proofs.lemmas.Option.{get_or_from_slice_get, slice_get_within}
-use Rattle.std.proofs.lemmas.Grind.{common_steps}
+use Rattle.ac_util.proofs.Prelude.{◌≡◌, ◌≢◌, ℕ, ◌+◌, ◌≤◌, List, [], ◌∷◌, ◌++◌, length, take, slice_set, refl, arith, Some, None, Contains, slice_get, rules, get_or_from_slice_get, slice_get_within, common_steps}
+use Rattle.ac_engines.specs.Prelude.{Both, Built, class_at, No, Node, plain_byte, StartKind, Unanchored, Yes, IsOwn, transition_bytes_of, anchored_shift, Filling, HasRow, HasSet, row_at, row_input}
 use Rattle.ac_util.specs.declared.search.Anchored.{Anchored}
-use Rattle.ac_automaton.specs.Util.{Both, Built, class_at, No, Node, plain_byte, StartKind, Unanchored, Yes}
 use Rattle.ac_util.specs.declared.search.StartKind.TheVariants.{Anchored as AnchoredAlone}
 use Rattle.ac_util.proofs.ClassLemmas.{stands-from_node}
 use Rattle.ac_util.proofs.Lists.{Contains-from_IsIn, IsIn, IsIn-at}
-use Rattle.ac_automaton.specs.Prelude.{IsOwn, transition_bytes_of}
 use Rattle.ac_automaton.proofs.Places.{take-next}
-use Rattle.ac_engines.specs.Prelude.{anchored_shift, Filling, HasRow, HasSet, row_at, row_input}
 use Rattle.ac_engines.proofs.Filled.{transition_bytes_of-only, transition_bytes_of-small}
 use Rattle.ac_engines.proofs.Numbered.{after-starts, place-row}
 use Rattle.ac_engines.proofs.Setting.{set-more}

@@ -1,13 +1,6 @@
 -- What a build of a contiguous NFA has made.
-use Rattle.std.proofs.Common.{◌≡◌, ℕ, ◌<◌, ◌≤◌, Bool, Err, Result, List, length, arith, slice_index_or}
-use Rattle.std.proofs.lemmas.Grind.{common_steps}
-use Rattle.ac_automaton.specs.Util.{Both, BuildError, GREATEST, Node}
-use Rattle.ac_automaton.specs.declared.nfa.noncontiguous.state.TheConstants.{ANCHORED_START, START}
-use Rattle.ac_automaton.specs.Prelude.{common_of, CommonView, Trie}
-use Rattle.ac_util.specs.declared.error.BuildError.TheVariants.{Memory}
-use Rattle.ac_engines.specs.Contiguous.Builds.{AnswersContiguousFrom}
-use Rattle.ac_engines.specs.Contiguous.Plans.{all_words}
-use Rattle.ac_engines.specs.Prelude.{classes_by, contiguous_of, ContiguousSettings, ContiguousView, front_end, HasPlaces, MayPack, packed_of, PackPlan}
+use Rattle.ac_util.proofs.Prelude.{◌≡◌, ℕ, ◌<◌, ◌≤◌, Bool, Err, Result, List, length, arith, slice_index_or, common_steps}
+use Rattle.ac_engines.specs.Prelude.{Both, BuildError, GREATEST, Node, ANCHORED_START, START, common_of, CommonView, Trie, Memory, AnswersContiguousFrom, all_words, classes_by, contiguous_of, ContiguousSettings, ContiguousView, front_end, HasPlaces, MayPack, packed_of, PackPlan}
 
 -- words whose parts are those of a plan were packed by it
 pub packed-same : (q : PackPlan) (nodes : List Node) (numbers words : List ℕ) (common : CommonView)

@@ -1,11 +1,6 @@
 -- A build of a contiguous NFA by settings: an automaton is built by them, and the words are packed from it.
-use Rattle.std.proofs.Common.{◌≡◌, Option, None, List, ℕ, MatchResult, Result, Ok, Err, arith}
-use Rattle.std.proofs.lemmas.Grind.{common_steps}
-use Rattle.ac_automaton.specs.Util.{BuildError, Built}
-use Rattle.ac_automaton.specs.Prelude.{IsEngineBuilt, RefusesBy, Trie}
-use Rattle.ac_engines.specs.Prelude.{contiguous_refusal, contiguous_refusal_by, ContiguousSettings, ContiguousView, IsContiguousBuilt, IsContiguousFrom}
-use Rattle.std.specs.Prelude.{MatchOption}
-use Rattle.ac_util.specs.declared.error.BuildError.TheVariants.{Memory}
+use Rattle.ac_util.proofs.Prelude.{◌≡◌, Option, None, List, ℕ, MatchResult, Result, Ok, Err, arith, common_steps, MatchOption}
+use Rattle.ac_engines.specs.Prelude.{BuildError, Built, IsEngineBuilt, RefusesBy, Trie, contiguous_refusal, contiguous_refusal_by, ContiguousSettings, ContiguousView, IsContiguousBuilt, IsContiguousFrom, Memory}
 
 module _ (settings : ContiguousSettings) (patterns : List (List ℕ)) (trie : Trie)
     (b : IsEngineBuilt settings.engine patterns trie) where

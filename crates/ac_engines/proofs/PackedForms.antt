@@ -1,23 +1,12 @@
 -- What the states of a trie spell can be packed in their forms.
-use Rattle.std.proofs.Common.{◌≡◌, inl, inr, ℕ, zero, suc, ◌+◌, ◌-◌, ◌<◌, ◌≤◌, List, [], ◌∷◌, length, map, slice_index_or, refl, ap, subst, sym, arith, Some, None, slice_get, rules, false}
-use Rattle.std.specs.List.{All, range_with_len}
-use Rattle.std.specs.List.Sorted.{IsStrictlyIncreasing}
-use Rattle.std.proofs.lemmas.Bool.{cases_lt, ltb-false}
-use Rattle.std.proofs.lemmas.List.{get_or_past, length-map}
-use Rattle.std.proofs.lemmas.List.Elements.{All-map}
-use Rattle.std.proofs.lemmas.Grind.{common_steps}
-use Rattle.ac_automaton.specs.Util.{alphabet_len, AreClasses, class_at, failure, No, Node, Yes}
+use Rattle.ac_util.proofs.Prelude.{◌≡◌, inl, inr, ℕ, zero, suc, ◌+◌, ◌-◌, ◌<◌, ◌≤◌, List, [], ◌∷◌, length, map, slice_index_or, refl, ap, subst, sym, arith, Some, None, slice_get, rules, false, All, range_with_len, IsStrictlyIncreasing, cases_lt, ltb-false, get_or_past, length-map, All-map, common_steps, if◌then◌else◌, nat_eq}
+use Rattle.ac_engines.specs.Prelude.{alphabet_len, AreClasses, class_at, failure, No, Node, Yes, leads_on, matches_of, transition_bytes_of, AreReady, Edge, edges_of, FAIL, Format, format_for, format_of, has_matches, MayPack, One, ONE_MATCH, one_words, packed_of, Packer, PackPlan, places_of, format_words, PackedState, packed_state, state_words, Fits, ANCHORED_START}
 use Rattle.ac_util.proofs.ClassLemmas.{stands-from_node}
 use Rattle.ac_util.proofs.ClassLists.{alphabet_len-few, class_at-below}
 use Rattle.ac_util.proofs.Lists.{AllPairs-from_IsOrdered, All-from_IsIn, Contains-from_IsIn, IsIn, IsOrdered, IsOrdered-filter, IsOrdered-map, IsOrdered-range}
-use Rattle.ac_automaton.specs.Prelude.{leads_on, matches_of, transition_bytes_of}
-use Rattle.ac_engines.specs.Prelude.{AreReady, Edge, edges_of, FAIL, Format, format_for, format_of, has_matches, MayPack, One, ONE_MATCH, one_words, packed_of, Packer, PackPlan, places_of, format_words, PackedState, packed_state, state_words}
-use Rattle.ac_engines.specs.Contiguous.Words.{Fits}
 use Rattle.ac_engines.proofs.Filled.{transition_bytes_of-only, transition_bytes_of-small}
 use Rattle.ac_engines.proofs.MatchCounts.{matches-few, matches-numbered}
 use Rattle.ac_engines.proofs.PackedNodes.{edge_by, edges-packed_at, matches-packed_at, string-of}
-use Rattle.std.specs.Prelude.{if◌then◌else◌, nat_eq}
-use Rattle.ac_automaton.specs.declared.nfa.noncontiguous.state.TheConstants.{ANCHORED_START}
 
 module _ (s : PackedState) (default_target : s.default_target ≡ FAIL) where
   -- the form of a state that leads nowhere by default fits it

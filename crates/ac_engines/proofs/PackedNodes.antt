@@ -1,15 +1,8 @@
 -- What the states of a trie spell.
-use Rattle.std.proofs.Common.{◌≡◌, ◌≢◌, ℕ, zero, suc, ◌<◌, ◌≤◌, List, [], ◌∷◌, ◌++◌, length, slice_index_or, refl, ap, sym, ◌∙◌, arith, Some, None, option_map, ◌&&◌, slice_get, if◌then◌else◌, rules}
-use Rattle.std.proofs.lemmas.List.{length-map}
-use Rattle.std.proofs.lemmas.Option.{slice_get-map, slice_get_within}
-use Rattle.std.proofs.lemmas.Grind.{common_steps}
+use Rattle.ac_util.proofs.Prelude.{◌≡◌, ◌≢◌, ℕ, zero, suc, ◌<◌, ◌≤◌, List, [], ◌∷◌, ◌++◌, length, slice_index_or, refl, ap, sym, ◌∙◌, arith, Some, None, option_map, ◌&&◌, slice_get, if◌then◌else◌, rules, length-map, slice_get-map, slice_get_within, common_steps, nat_eq}
+use Rattle.ac_engines.specs.Prelude.{begins_with_pattern, class_at, failure, is_leftmost, No, Node, plain_byte, Yes, AreNodes, IsOwn, matches_of, transition_bytes_of, plain_of, Trie, AreReady, ContiguousView, Edge, edges_of, FAIL, number_at, packed_of, Packer, Places, places_of, packed_at, packed_state, ANCHORED_START}
 use Rattle.ac_util.specs.declared.search.Anchored.{Anchored}
-use Rattle.ac_automaton.specs.Util.{begins_with_pattern, class_at, failure, is_leftmost, No, Node, plain_byte, Yes}
-use Rattle.ac_automaton.specs.Prelude.{AreNodes, IsOwn, matches_of, transition_bytes_of, plain_of, Trie}
-use Rattle.ac_engines.specs.Prelude.{AreReady, ContiguousView, Edge, edges_of, FAIL, number_at, packed_of, Packer, Places, places_of, packed_at, packed_state}
 use Rattle.ac_engines.proofs.Numbered.{inner-alive, inner-string, place-inner, place-start}
-use Rattle.std.specs.Prelude.{nat_eq}
-use Rattle.ac_automaton.specs.declared.nfa.noncontiguous.state.TheConstants.{ANCHORED_START}
 
 -- a node that is a string
 pub record IsString (u : Node) : Type 0 where

@@ -1,12 +1,6 @@
 -- The numbers of a trie's states are those of the packed states.
-use Rattle.std.proofs.Common.{◌≡◌, ◌≢◌, ◌⊎◌, ℕ, zero, suc, ◌<◌, ◌≤◌, List, [], length, inl, inr, ap, sym, ◌∙◌, arith, Some, None, slice_get, slice_index_or}
-use Rattle.std.proofs.lemmas.Bool.{cases_lt}
-use Rattle.std.proofs.lemmas.Option.{get_or_from_slice_get, slice_get-get_or, slice_get_within}
-use Rattle.ac_automaton.specs.Util.{IsNode, No, Node}
-use Rattle.ac_automaton.specs.declared.nfa.noncontiguous.state.TheConstants.{ANCHORED_START}
-use Rattle.ac_automaton.specs.Prelude.{AreNodes, IsNumbered, matches_of, plain_of, Trie}
-use Rattle.ac_engines.specs.Contiguous.{contiguous_automaton}
-use Rattle.ac_engines.specs.Prelude.{AreReady, ContiguousView, IsContiguous, IsContiguousState, match_list_at, Packer, Places, places_of}
+use Rattle.ac_util.proofs.Prelude.{◌≡◌, ◌≢◌, ◌⊎◌, ℕ, zero, suc, ◌<◌, ◌≤◌, List, [], length, inl, inr, ap, sym, ◌∙◌, arith, Some, None, slice_get, slice_index_or, cases_lt, get_or_from_slice_get, slice_get-get_or, slice_get_within}
+use Rattle.ac_engines.specs.Prelude.{IsNode, No, Node, ANCHORED_START, AreNodes, IsNumbered, matches_of, plain_of, Trie, contiguous_automaton, AreReady, ContiguousView, IsContiguous, IsContiguousState, match_list_at, Packer, Places, places_of}
 use Rattle.ac_engines.proofs.NodeBytes.{named-node, named-place, stated}
 use Rattle.ac_engines.proofs.Numbered.{place-inner, place-start}
 use Rattle.ac_engines.proofs.PackedPlaces.{place-number, same-place}

@@ -1,10 +1,7 @@
 -- What the number of a packed state says.
-use Rattle.std.proofs.Common.{◌≡◌, ◌≢◌, ℕ, ◌<◌, ◌≤◌, ◌⊎◌, ◌↔◌, List, [], ◌∷◌, drop, inl, inr, length, refl, ap, subst, sym, ◌∙◌, arith, Some, None, slice_index_or}
-use Rattle.std.specs.List.{All}
-use Rattle.ac_automaton.specs.Util.{alphabet_len, GREATEST, No, Node, Yes}
+use Rattle.ac_util.proofs.Prelude.{◌≡◌, ◌≢◌, ℕ, ◌<◌, ◌≤◌, ◌⊎◌, ◌↔◌, List, [], ◌∷◌, drop, inl, inr, length, refl, ap, subst, sym, ◌∙◌, arith, Some, None, slice_index_or, All}
+use Rattle.ac_engines.specs.Prelude.{alphabet_len, GREATEST, No, Node, Yes, matches_of, BeginsWith, ContiguousView, Format, IsContiguousState, match_list_at, node_format, number_at, Places, PackedState, packed_at}
 use Rattle.ac_util.specs.declared.search.Anchored.{Anchored}
-use Rattle.ac_automaton.specs.Automata.{matches_of}
-use Rattle.ac_engines.specs.Prelude.{BeginsWith, ContiguousView, Format, IsContiguousState, match_list_at, node_format, number_at, Places, PackedState, packed_at}
 use Rattle.ac_engines.proofs.MatchCounts.{matches-numbered}
 use Rattle.ac_engines.proofs.PackedNodes.{matches-packed_at}
 

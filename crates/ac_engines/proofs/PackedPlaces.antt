@@ -1,13 +1,8 @@
 -- Where the states of a contiguous NFA's strings stand is told by its words.
-use Rattle.std.proofs.Common.{◌≡◌, ◌≢◌, ◌⊎◌, ℕ, ◌-◌, ◌/◌, ◌%◌, ◌<◌, List, [], ◌∷◌, ◌++◌, drop, take, length, inl, inr, refl, ap, sym, ◌∙◌, subst, arith, Some, slice_index_or}
-use Rattle.std.specs.Borrow.{Bor}
+use Rattle.ac_util.proofs.Prelude.{◌≡◌, ◌≢◌, ◌⊎◌, ℕ, ◌-◌, ◌/◌, ◌%◌, ◌<◌, List, [], ◌∷◌, ◌++◌, drop, take, length, inl, inr, refl, ap, sym, ◌∙◌, subst, arith, Some, slice_index_or, Bor, cases_eq, common_steps}
+use Rattle.ac_engines.specs.Prelude.{alphabet_len, class_at, IsNode, No, Node, plain_byte, AreNodes, plain_of, Trie, AreNamed, BeginsWith, class_of_place, ContiguousView, Dense, Edge, edges_from, Format, IsContiguous, named, node_format, number_at, One, PackedState, packed_at, Places, Sparse, target_by}
 use Rattle.std.specs.Int.{div_ceil}
-use Rattle.std.proofs.lemmas.Bool.{cases_eq}
-use Rattle.std.proofs.lemmas.Grind.{common_steps}
 use Rattle.ac_util.proofs.ClassLists.{class_at-below}
-use Rattle.ac_automaton.specs.Util.{alphabet_len, class_at, IsNode, No, Node, plain_byte}
-use Rattle.ac_automaton.specs.Prelude.{AreNodes, plain_of, Trie}
-use Rattle.ac_engines.specs.Prelude.{AreNamed, BeginsWith, class_of_place, ContiguousView, Dense, Edge, edges_from, Format, IsContiguous, named, node_format, number_at, One, PackedState, packed_at, Places, Sparse, target_by}
 use Rattle.ac_engines.proofs.NodeBytes.{by-last, front-node, last-plain, last-small}
 use Rattle.ac_engines.proofs.PackedSteps.{are-named, target_of, target-longer}
 use Rattle.ac_engines.proofs.PackedWords.{form-sparse, leads-at, leads-one, LeadsOne}

@@ -1,13 +1,8 @@
 -- Packed states, as they stand after one another, mean what they should.
-use Rattle.std.proofs.Common.{◌≡◌, ◌≢◌, ℕ, ◌+◌, ◌<◌, ◌≤◌, ◌↔◌, Bool, true, false, List, [], ◌∷◌, ◌++◌, length, drop, None, Some, refl, ap, subst, sym, ◌∙◌, arith, slice_get, rules}
-use Rattle.std.proofs.lemmas.Bool.{ltb-false}
-use Rattle.std.proofs.lemmas.List.{nil_from_length}
-use Rattle.std.proofs.lemmas.Option.{slice_get_within}
-use Rattle.ac_automaton.specs.Util.{alphabet_len, GREATEST, IsNode, No, Node}
+use Rattle.ac_util.proofs.Prelude.{◌≡◌, ◌≢◌, ℕ, ◌+◌, ◌<◌, ◌≤◌, ◌↔◌, Bool, true, false, List, [], ◌∷◌, ◌++◌, length, drop, None, Some, refl, ap, subst, sym, ◌∙◌, arith, slice_get, rules, ltb-false, nil_from_length, slice_get_within}
+use Rattle.ac_engines.specs.Prelude.{alphabet_len, GREATEST, IsNode, No, Node, matches_of, plain_of, AreReady, BeginsWith, ContiguousView, dead_words, Dense, FAIL, before, format_for, front_end, has_matches, HasPushedUpTo, IsContiguous, match_list_at, number_at, packed_of, packed_words, Packer, place_at, Places, places_of, size_at, size_of, packed_at, packed_dead, packed_state}
 use Rattle.ac_util.specs.declared.search.Anchored.{Anchored}
 use Rattle.ac_util.proofs.ClassLists.{alphabet_len-few}
-use Rattle.ac_automaton.specs.Prelude.{matches_of, plain_of}
-use Rattle.ac_engines.specs.Prelude.{AreReady, BeginsWith, ContiguousView, dead_words, Dense, FAIL, before, format_for, front_end, has_matches, HasPushedUpTo, IsContiguous, match_list_at, number_at, packed_of, packed_words, Packer, place_at, Places, places_of, size_at, size_of, packed_at, packed_dead, packed_state}
 use Rattle.ac_engines.proofs.Decoding.{listed-none, listed-format_words}
 use Rattle.ac_engines.proofs.PackedNodes.{matches-packed_at}
 use Rattle.ac_engines.proofs.Numbered.{place-start}

@@ -1,14 +1,9 @@
 -- Where a state of a contiguous NFA leads, by the node that it stands for.
-use Rattle.std.proofs.Common.{◌≡◌, ◌≢◌, ℕ, ◌+◌, ◌<◌, Bool, true, false, List, [], ◌∷◌, ◌++◌, ◌⊎◌, inl, inr, refl, ap, sym, ◌∙◌, arith, Some, None, if◌then◌else◌, slice_index_or}
-use Rattle.std.proofs.lemmas.Bool.{cond-true, cond-false}
-use Rattle.std.proofs.lemmas.List.Elements.{All-map, Contains-get_or}
-use Rattle.std.proofs.lemmas.Grind.{common_steps}
+use Rattle.ac_util.proofs.Prelude.{◌≡◌, ◌≢◌, ℕ, ◌+◌, ◌<◌, Bool, true, false, List, [], ◌∷◌, ◌++◌, ◌⊎◌, inl, inr, refl, ap, sym, ◌∙◌, arith, Some, None, if◌then◌else◌, slice_index_or, cond-true, cond-false, All-map, Contains-get_or, common_steps}
+use Rattle.ac_engines.specs.Prelude.{class_at, depth, IsNode, No, Node, plain_byte, step, Yes, leads_on, looks_of, fallback, transition_bytes_of, plain_of, step_of, AreNamed, ContiguousView, Edge, edges_of, FAIL, IsContiguous, number_at, Places, packed_at, target_by}
 use Rattle.ac_util.specs.declared.search.Anchored.{Anchored}
-use Rattle.ac_automaton.specs.Util.{class_at, depth, IsNode, No, Node, plain_byte, step, Yes}
 use Rattle.ac_util.proofs.Failures.{depth-failure}
-use Rattle.ac_automaton.specs.Prelude.{leads_on, looks_of, fallback, transition_bytes_of, plain_of, step_of}
 use Rattle.ac_automaton.proofs.Steps.{looks-on, step-fallback, step-on}
-use Rattle.ac_engines.specs.Prelude.{AreNamed, ContiguousView, Edge, edges_of, FAIL, IsContiguous, number_at, Places, packed_at, target_by}
 use Rattle.ac_engines.proofs.EdgeTargets.{no-target, own-target}
 use Rattle.ac_engines.proofs.Filled.{transition_bytes_of-only}
 use Rattle.ac_engines.proofs.Numbers.{failure-node}

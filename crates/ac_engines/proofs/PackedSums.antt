@@ -1,14 +1,8 @@
 -- Sums over the states of a plan, and over the strings that they stand for.
-use Rattle.std.proofs.Common.{◌≡◌, ◌≢◌, ℕ, zero, suc, ◌+◌, ◌<◌, ◌≤◌, List, [], ◌∷◌, length, map, inl, inr, Option, None, Some, refl, ap, sym, subst, ◌∙◌, add-one, arith, slice_get, rules}
-use Rattle.std.specs.List.{range_with_len, sum_by}
-use Rattle.std.proofs.lemmas.List.FromFn.{length-map-range_with_len}
+use Rattle.ac_util.proofs.Prelude.{◌≡◌, ◌≢◌, ℕ, zero, suc, ◌+◌, ◌<◌, ◌≤◌, List, [], ◌∷◌, length, map, inl, inr, Option, None, Some, refl, ap, sym, subst, ◌∙◌, add-one, arith, slice_get, rules, range_with_len, sum_by, length-map-range_with_len, cases_lt, common_steps}
+use Rattle.ac_engines.specs.Prelude.{inner_nodes, Node, AreNodes, plain_of, Trie, total}
 use Rattle.std.proofs.lemmas.List.Sums.{sum_by-cons}
-use Rattle.std.proofs.lemmas.Bool.{cases_lt}
-use Rattle.std.proofs.lemmas.Grind.{common_steps}
-use Rattle.ac_automaton.specs.Util.{inner_nodes, Node}
 use Rattle.ac_util.proofs.Lists.{IsIn, IsIn-from_Contains, IsIn-from_map, IsIn-from_range, IsOrdered}
-use Rattle.ac_automaton.specs.Prelude.{AreNodes, plain_of, Trie}
-use Rattle.ac_engines.specs.Contiguous.Plans.{total}
 
 -- one number more is summed
 pub total-more : (f : ℕ → ℕ) (n : ℕ) → total f (n + 1) ≡ total f n + f n

@@ -1,12 +1,7 @@
 -- What stands where in the words of a state.
-use Rattle.std.proofs.Common.{refl, ◌≡◌, ◌≢◌, ℕ, ◌+◌, ◌*◌, ◌-◌, ◌/◌, ◌%◌, ◌<◌, ◌≤◌, List, [], ◌∷◌, ◌++◌, length, map, take, drop, Some, None, ap, sym, ◌∙◌, arith, ◌==◌, All, slice_index_or, rules}
-use Rattle.std.specs.Int.{div_ceil}
-use Rattle.std.specs.List.{range_with_len}
-use Rattle.std.proofs.lemmas.Bool.{cond-false, cond-true, eq-eqb, ne_eqb}
-use Rattle.std.proofs.lemmas.Grind.{div_ceil_times, common_steps}
-use Rattle.std.proofs.lemmas.List.{append_assoc, get_or-drop, length-append, length-drop, length-map, take_all}
-use Rattle.std.proofs.lemmas.List.FromFn.{get_or-map-range_with_len, length-map-range_with_len}
+use Rattle.ac_util.proofs.Prelude.{refl, ◌≡◌, ◌≢◌, ℕ, ◌+◌, ◌*◌, ◌-◌, ◌/◌, ◌%◌, ◌<◌, ◌≤◌, List, [], ◌∷◌, ◌++◌, length, map, take, drop, Some, None, ap, sym, ◌∙◌, arith, ◌==◌, All, slice_index_or, rules, range_with_len, cond-false, cond-true, eq-eqb, ne_eqb, div_ceil_times, common_steps, append_assoc, get_or-drop, length-append, length-drop, length-map, take_all, get_or-map-range_with_len, length-map-range_with_len}
 use Rattle.ac_engines.specs.Prelude.{AreNamed, BeginsWith, class_words, DENSE, Dense, Edge, FAIL, Format, match_list_words, named, ONE, One, one_words, Sparse, format_words, PackedState, target_by}
+use Rattle.std.specs.Int.{div_ceil}
 use Rattle.ac_engines.proofs.ClassWords.{edge_classes, length-class_words, targets_of}
 
 -- as many class words as the code counts hold the classes of the transitions

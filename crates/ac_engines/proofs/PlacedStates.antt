@@ -1,13 +1,8 @@
 -- Where packed states are placed: each at the place of its number, and no two at the same place.
-use Rattle.std.proofs.Common.{◌≡◌, ◌≢◌, ℕ, ◌+◌, ◌<◌, ◌≤◌, Bool, true, false, List, [], ◌∷◌, length, None, Some, refl, sym, ◌∙◌, arith, inl, inr, slice_get, slice_index_or}
-use Rattle.std.proofs.lemmas.Bool.{cases_lt, false≢true}
-use Rattle.std.proofs.lemmas.Option.{slice_get_within}
-use Rattle.ac_automaton.specs.Util.{IsNode, No, Node, Yes}
+use Rattle.ac_util.proofs.Prelude.{◌≡◌, ◌≢◌, ℕ, ◌+◌, ◌<◌, ◌≤◌, Bool, true, false, List, [], ◌∷◌, length, None, Some, refl, sym, ◌∙◌, arith, inl, inr, slice_get, slice_index_or, cases_lt, false≢true, slice_get_within}
+use Rattle.ac_engines.specs.Prelude.{IsNode, No, Node, Yes, START, plain_of, AreReady, ContiguousView, Dense, before, Format, format_for, front_end, has_matches, number_at, One, packed_of, Packer, place_at, Places, places_of, size_at, size_of, Sparse, packed_at, packed_state, words_of_state}
 use Rattle.ac_util.specs.declared.search.Anchored.{Anchored}
 use Rattle.ac_util.proofs.NodeCount.{inner_nodes-has}
-use Rattle.ac_automaton.specs.declared.nfa.noncontiguous.state.TheConstants.{START}
-use Rattle.ac_automaton.specs.Prelude.{plain_of}
-use Rattle.ac_engines.specs.Prelude.{AreReady, ContiguousView, Dense, before, Format, format_for, front_end, has_matches, number_at, One, packed_of, Packer, place_at, Places, places_of, size_at, size_of, Sparse, packed_at, packed_state, words_of_state}
 use Rattle.ac_engines.proofs.Numbered.{place-inner, place-start}
 use Rattle.ac_engines.proofs.PackedSums.{total-grows}
 use Rattle.ac_engines.proofs.PlanSums.{takes}

@@ -1,8 +1,7 @@
 -- The number of a string's first row is that of its state.
-use Rattle.std.proofs.Common.{◌≡◌, ◌≢◌, ℕ, zero, suc, ◌<◌, Bool, true, false, List, [], ◌∷◌, length, slice_index_or, refl, ap, ◌∙◌, arith, Some, None, bytes_eq, slice_get, if◌then◌else◌}
+use Rattle.ac_util.proofs.Prelude.{◌≡◌, ◌≢◌, ℕ, zero, suc, ◌<◌, Bool, true, false, List, [], ◌∷◌, length, slice_index_or, refl, ap, ◌∙◌, arith, Some, None, bytes_eq, slice_get, if◌then◌else◌}
+use Rattle.ac_engines.specs.Prelude.{Node, first_row_in}
 use Rattle.std.proofs.lemmas.Slice.Eq.{bytes_eq-Decides}
-use Rattle.ac_util.specs.Node.{Node}
-use Rattle.ac_engines.specs.Dfa.Filling.{first_row_in}
 
 -- what a test answers that decides the equality of two strings
 taken : (v w : List ℕ) (n m : ℕ) → v ≡ w → (if bytes_eq v w then n else m) ≡ n

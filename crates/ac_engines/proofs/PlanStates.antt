@@ -1,8 +1,6 @@
 -- The states of a plan's trie, as their readers know them.
-use Rattle.std.proofs.Common.{◌≡◌, ℕ, List, length, Some, ap, slice_get}
-use Rattle.ac_automaton.specs.Util.{No, Node}
-use Rattle.ac_automaton.specs.Prelude.{IsTrieState, listed_within, matches_of}
-use Rattle.ac_engines.specs.Prelude.{HasWords, MayPack, PackPlan}
+use Rattle.ac_util.proofs.Prelude.{◌≡◌, ℕ, List, length, Some, ap, slice_get}
+use Rattle.ac_engines.specs.Prelude.{No, Node, IsTrieState, listed_within, matches_of, HasWords, MayPack, PackPlan}
 
 module _ (p q : PackPlan) (s : ℕ) (same : p ≡ q) where
   -- a state that has words stands for a node

@@ -1,11 +1,6 @@
 -- The places of a plan's states, by the sums of their sizes.
-use Rattle.std.proofs.Common.{◌≡◌, ℕ, zero, suc, ◌+◌, ◌*◌, ◌<◌, ◌≤◌, Bool, true, false, cond, List, [], ◌∷◌, ◌++◌, length, None, Some, refl, ap, arith, slice_get, slice_index_or, rules}
-use Rattle.std.proofs.lemmas.Bool.{cond-false, le-ltb}
-use Rattle.std.proofs.lemmas.Option.{slice_get-get_or}
-use Rattle.std.proofs.lemmas.Grind.{common_steps}
-use Rattle.ac_automaton.specs.Util.{alphabet_len, Node, state_count}
-use Rattle.ac_automaton.specs.Prelude.{plain_of}
-use Rattle.ac_engines.specs.Prelude.{before, front_end, has_matches, HasWords, MayPack, packed_words, PackPlan, place_at, size_at, size_of, sized, total}
+use Rattle.ac_util.proofs.Prelude.{◌≡◌, ℕ, zero, suc, ◌+◌, ◌*◌, ◌<◌, ◌≤◌, Bool, true, false, cond, List, [], ◌∷◌, ◌++◌, length, None, Some, refl, ap, arith, slice_get, slice_index_or, rules, cond-false, le-ltb, slice_get-get_or, common_steps}
+use Rattle.ac_engines.specs.Prelude.{alphabet_len, Node, state_count, plain_of, before, front_end, has_matches, HasWords, MayPack, packed_words, PackPlan, place_at, size_at, size_of, sized, total}
 use Rattle.ac_engines.proofs.LaidUpTo.{IsNamed}
 use Rattle.ac_engines.proofs.PackedSums.{total-both, total-grows, total-inner, total-more}
 

@@ -1,12 +1,6 @@
 -- How many words a state takes, and where its words begin.
-use Rattle.std.proofs.Common.{◌≡◌, ℕ, ◌<◌, ◌≤◌, List, [], ◌∷◌, ◌++◌, length, map, drop, refl, ap, arith, slice_index_or}
-use Rattle.std.specs.List.{All, range_with_len}
-use Rattle.std.specs.List.Sorted.{IsStrictlyIncreasing}
-use Rattle.std.proofs.lemmas.List.{length-append, length-map}
-use Rattle.std.proofs.lemmas.List.FromFn.{length-map-range_with_len}
-use Rattle.std.proofs.lemmas.Grind.{common_steps}
-use Rattle.ac_engines.specs.Prelude.{BeginsWith, class_words, Dense, Edge, Format, match_list_words, match_words, One, ONE_MATCH, one_words, Sparse, format_words, PackedState, target_by, words_of_state}
-use Rattle.ac_engines.specs.Contiguous.Words.{Fits}
+use Rattle.ac_util.proofs.Prelude.{◌≡◌, ℕ, ◌<◌, ◌≤◌, List, [], ◌∷◌, ◌++◌, length, map, drop, refl, ap, arith, slice_index_or, All, range_with_len, IsStrictlyIncreasing, length-append, length-map, length-map-range_with_len, common_steps}
+use Rattle.ac_engines.specs.Prelude.{BeginsWith, class_words, Dense, Edge, Format, match_list_words, match_words, One, ONE_MATCH, one_words, Sparse, format_words, PackedState, target_by, words_of_state, Fits}
 use Rattle.ac_engines.proofs.ClassWords.{length-class_words}
 
 -- two words stand before what is pushed after them

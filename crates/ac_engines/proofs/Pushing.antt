@@ -1,10 +1,7 @@
 -- Pushing the words of one state after another.
-use Rattle.std.proofs.Common.{◌≡◌, ◌≢◌, ℕ, ◌+◌, ◌<◌, ◌≤◌, Bool, true, false, List, ◌++◌, length, inl, inr, refl, ap, sym, subst, ◌∙◌, arith, Some, slice_get, rules}
-use Rattle.std.proofs.lemmas.Bool.{cases_lt}
-use Rattle.std.proofs.lemmas.List.{append_assoc, append-nil, length-append}
-use Rattle.ac_automaton.specs.Util.{alphabet_len, Node}
+use Rattle.ac_util.proofs.Prelude.{◌≡◌, ◌≢◌, ℕ, ◌+◌, ◌<◌, ◌≤◌, Bool, true, false, List, ◌++◌, length, inl, inr, refl, ap, sym, subst, ◌∙◌, arith, Some, slice_get, rules, cases_lt, append_assoc, append-nil, length-append}
+use Rattle.ac_engines.specs.Prelude.{alphabet_len, Node, AreReady, before, format_for, has_matches, HasPushedUpTo, Packer, size_at, size_of, packed_state, state_words}
 use Rattle.ac_automaton.proofs.Places.{get-same}
-use Rattle.ac_engines.specs.Prelude.{AreReady, before, format_for, has_matches, HasPushedUpTo, Packer, size_at, size_of, packed_state, state_words}
 use Rattle.ac_engines.proofs.PackedSums.{total-grows}
 use Rattle.ac_engines.proofs.PlanSums.{before-starts, takes}
 use Rattle.ac_engines.proofs.PushedStates.{begins-before, begins-after, length-format_words}

@@ -1,8 +1,5 @@
 -- Writing classes in words, four in each.
-use Rattle.std.proofs.Common.{◌≡◌, inl, inr, ℕ, ◌-◌, ◌<◌, ◌≤◌, List, [], ◌∷◌, ◌++◌, length, map, take, drop, refl, sym, ap, ◌∙◌, arith, slice_index, min}
-use Rattle.std.proofs.lemmas.Bool.{cases_lt}
-use Rattle.std.proofs.lemmas.List.{append-nil, drop-map, drop_at, length-append, nil_from_length, take-map, take_at}
-use Rattle.std.proofs.lemmas.Grind.{common_steps}
+use Rattle.ac_util.proofs.Prelude.{◌≡◌, inl, inr, ℕ, ◌-◌, ◌<◌, ◌≤◌, List, [], ◌∷◌, ◌++◌, length, map, take, drop, refl, sym, ap, ◌∙◌, arith, slice_index, min, cases_lt, append-nil, drop-map, drop_at, length-append, nil_from_length, take-map, take_at, common_steps}
 use Rattle.ac_engines.specs.Prelude.{class_words, Edge, word_of}
 
 -- up to four classes stand in one word, which is filled up with the last one

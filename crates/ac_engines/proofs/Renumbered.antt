@@ -1,19 +1,8 @@
 -- The commits of a trie are those of an engine, by the numbers that this has for the states of the trie.
-use Rattle.std.proofs.Common.{◌≡◌, ◌≢◌, ℕ, ◌==◌, List, [], ◌∷◌, length, inl, inr, refl, ap, sym, ◌∙◌, subst, arith, get_or, Option, Some, None, slice_get, filter_map, if◌then◌else◌, option_map}
-use Rattle.std.proofs.lemmas.Bool.{cases_eq, cond-false, cond-true, eq-eqb, ne_eqb}
+use Rattle.ac_util.proofs.Prelude.{◌≡◌, ◌≢◌, ℕ, ◌==◌, List, [], ◌∷◌, length, inl, inr, refl, ap, sym, ◌∙◌, subst, arith, get_or, Option, Some, None, slice_get, filter_map, if◌then◌else◌, option_map, cases_eq, cond-false, cond-true, eq-eqb, ne_eqb, slice_get-get_or, slice_get_within, common_steps}
+use Rattle.ac_engines.specs.Prelude.{MatchKind, No, Node, IsPickIn, ChainMatch, Commit, AreCommits, CommitsView, HasCommits, IsCommit, ANCHORED_START, START, AreNodes, AutomatonView, IsNumbered, IsTrie, IsTrieState, matches_of, plain_of, Trie, automaton_of, AreRenumbered, number_in, renumbered_one}
 use Rattle.std.proofs.lemmas.List.Sorted.{Contains-permutation, IsPermutation-sym}
-use Rattle.std.proofs.lemmas.Option.{slice_get-get_or, slice_get_within}
-use Rattle.std.proofs.lemmas.Grind.{common_steps}
 use Rattle.ac_util.proofs.Lists.{Contains-from_IsIn, IsIn, IsIn-from_Contains}
-use Rattle.ac_automaton.specs.Util.{MatchKind, No, Node}
-use Rattle.ac_util.specs.Commits.{IsPickIn}
-use Rattle.ac_automaton.specs.declared.automaton.commits.ChainMatch.{ChainMatch}
-use Rattle.ac_automaton.specs.declared.automaton.commits.Commit.{Commit}
-use Rattle.ac_automaton.specs.Commits.{AreCommits, CommitsView, HasCommits, IsCommit}
-use Rattle.ac_automaton.specs.declared.nfa.noncontiguous.state.TheConstants.{ANCHORED_START, START}
-use Rattle.ac_automaton.specs.Prelude.{AreNodes, AutomatonView, IsNumbered, IsTrie, IsTrieState, matches_of, plain_of, Trie}
-use Rattle.ac_automaton.specs.Tries.{automaton_of}
-use Rattle.ac_engines.specs.Commits.{AreRenumbered, number_in, renumbered_one}
 use Rattle.std.specs.Option.{option_and_then}
 
 -- the states of an automaton that stand for a table of nodes are these

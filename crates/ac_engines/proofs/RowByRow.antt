@@ -1,12 +1,8 @@
 -- The rows of a DFA, filled one after another.
-use Rattle.std.proofs.Common.{◌≡◌, ◌≢◌, inl, inr, ℕ, ◌+◌, ◌<◌, ◌≤◌, List, length, slice_index_or, refl, ◌∙◌, arith, Some, None, slice_get, rules}
-use Rattle.std.proofs.lemmas.Bool.{cases_lt}
-use Rattle.std.proofs.lemmas.Option.{slice_get_within}
-use Rattle.std.proofs.lemmas.Grind.{common_steps}
+use Rattle.ac_util.proofs.Prelude.{◌≡◌, ◌≢◌, inl, inr, ℕ, ◌+◌, ◌<◌, ◌≤◌, List, length, slice_index_or, refl, ◌∙◌, arith, Some, None, slice_get, rules, cases_lt, slice_get_within, common_steps}
+use Rattle.ac_engines.specs.Prelude.{Both, No, Node, start_refusal, StartKind, Unanchored, Yes, FilledUpTo, Filling, HasFilled, HasRow, IsFilled, MayFill, MayFillRow, row_at, SameBeside, RowInput, row_input, width}
 use Rattle.ac_util.specs.declared.search.Anchored.{Anchored}
-use Rattle.ac_automaton.specs.Util.{Both, No, Node, start_refusal, StartKind, Unanchored, Yes}
 use Rattle.ac_util.specs.declared.search.StartKind.TheVariants.{Anchored as AnchoredAlone}
-use Rattle.ac_engines.specs.Prelude.{FilledUpTo, Filling, HasFilled, HasRow, IsFilled, MayFill, MayFillRow, row_at, SameBeside, RowInput, row_input, width}
 use Rattle.ac_engines.proofs.Filled.{filled-beside}
 use Rattle.ac_engines.proofs.Numbered.{place-row}
 use Rattle.ac_engines.proofs.Owning.{anchored_shift-most}

@@ -1,12 +1,10 @@
 -- The rows of a node and their lists, by the starts that a DFA has.
-use Rattle.std.proofs.Common.{◌≡◌, ◌⊎◌, inl, inr, ℕ, zero, suc, ◌+◌, ◌-◌, ◌*◌, ◌<◌, ◌≤◌, List, [], ◌∷◌, ◌++◌, slice_index_or, refl, ap, sym, ◌∙◌, arith, Some, None}
+use Rattle.ac_util.proofs.Prelude.{◌≡◌, ◌⊎◌, inl, inr, ℕ, zero, suc, ◌+◌, ◌-◌, ◌*◌, ◌<◌, ◌≤◌, List, [], ◌∷◌, ◌++◌, slice_index_or, refl, ap, sym, ◌∙◌, arith, Some, None}
+use Rattle.ac_engines.specs.Prelude.{Both, Built, No, Node, start_refusal, StartKind, Unanchored, Yes, IsTrieState, listed_within, matches_of, stands-lists, Trie, anchored_shift, first_lists, row_list, row_lists, rows_each, table_rows}
 use Rattle.std.proofs.Math.Nat.{mul-div_cancel}
 use Rattle.ac_util.specs.declared.search.Anchored.{Anchored}
-use Rattle.ac_automaton.specs.Util.{Both, Built, No, Node, start_refusal, StartKind, Unanchored, Yes}
 use Rattle.ac_util.specs.declared.search.StartKind.TheVariants.{Anchored as AnchoredAlone}
 use Rattle.ac_util.proofs.Advance.{append_nil_left}
-use Rattle.ac_automaton.specs.Prelude.{IsTrieState, listed_within, matches_of, stands-lists, Trie}
-use Rattle.ac_engines.specs.Prelude.{anchored_shift, first_lists, row_list, row_lists, rows_each, table_rows}
 
 -- a state that lists nothing has no matches, unanchored or anchored
 pub unmatched : (trie : Trie) (s : ℕ) (u : Node) → IsTrieState trie s u

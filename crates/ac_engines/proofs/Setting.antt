@@ -1,12 +1,8 @@
 -- Setting own transitions in a row of a DFA, one after another.
-use Rattle.std.proofs.Common.{◌≡◌, ◌≢◌, inl, inr, ℕ, ◌+◌, ◌<◌, List, [], ◌∷◌, ◌++◌, length, slice_set, sym, ◌∙◌, arith, Some, Contains}
-use Rattle.std.proofs.lemmas.Bool.{cases_eq}
-use Rattle.std.proofs.lemmas.List.{get_or-set_same, get_or-set_other, length-set}
-use Rattle.std.proofs.lemmas.List.Elements.{Contains-append_cases, Contains-append_left, Contains-append_right}
+use Rattle.ac_util.proofs.Prelude.{◌≡◌, ◌≢◌, inl, inr, ℕ, ◌+◌, ◌<◌, List, [], ◌∷◌, ◌++◌, length, slice_set, sym, ◌∙◌, arith, Some, Contains, cases_eq, get_or-set_same, get_or-set_other, length-set, Contains-append_cases, Contains-append_left, Contains-append_right}
+use Rattle.ac_engines.specs.Prelude.{alphabet_len, class_at, plain_byte, HasSet, RowInput, row_at}
 use Rattle.ac_util.specs.declared.search.Anchored.{Anchored}
-use Rattle.ac_automaton.specs.Util.{alphabet_len, class_at, plain_byte}
 use Rattle.ac_util.proofs.Lists.{IsIn-from_Contains}
-use Rattle.ac_engines.specs.Dfa.Filling.{HasSet, RowInput, row_at}
 
 Contains-one : (a b : ℕ) → Contains (b ∷ []) a → a ≡ b
 Contains-one a b h = elim (IsIn-from_Contains a (b ∷ []) h) [ inl same ↦ sym same | inr none ↦ absurd none ]

@@ -1,15 +1,9 @@
 -- Setting the targets of transitions at their classes, one after another.
-use Rattle.std.proofs.Common.{◌≡◌, ◌≢◌, ℕ, suc, ◌+◌, ◌-◌, ◌<◌, List, [], ◌∷◌, ◌++◌, length, map, take, drop, refl, sym, ap, ◌∙◌, arith, ◌==◌, if◌then◌else◌, replicate, slice_index_or, slice_set, rules}
-use Rattle.std.specs.List.{All, range_with_len}
-use Rattle.std.specs.List.Sorted.{IsStrictlyIncreasing}
-use Rattle.std.proofs.lemmas.Bool.{eq-eqb, ne_eqb}
-use Rattle.std.proofs.lemmas.List.{ext_get_or, get_or-map, get_or-replicate, get_or-take, length-append, length-map, length-replicate, length-take-le, take-append-le, take_at}
-use Rattle.std.proofs.lemmas.Slice.{take-put_mid}
-use Rattle.std.proofs.lemmas.Grind.{common_steps}
-use borrow.Rule.Slice.PartMut.{put_mid}
-use Rattle.std.proofs.lemmas.List.FromFn.{get_or-map-range_with_len, length-map-range_with_len}
-use Rattle.std.proofs.lemmas.List.Kept.{AllPairs-from_increasing}
+use Rattle.ac_util.proofs.Prelude.{◌≡◌, ◌≢◌, ℕ, suc, ◌+◌, ◌-◌, ◌<◌, List, [], ◌∷◌, ◌++◌, length, map, take, drop, refl, sym, ap, ◌∙◌, arith, ◌==◌, if◌then◌else◌, replicate, slice_index_or, slice_set, rules, All, range_with_len, IsStrictlyIncreasing, eq-eqb, ne_eqb, ext_get_or, get_or-map, get_or-replicate, get_or-take, length-append, length-map, length-replicate, length-take-le, take-append-le, take_at, common_steps, get_or-map-range_with_len, length-map-range_with_len}
 use Rattle.ac_engines.specs.Prelude.{Edge, HasTargets, target_by}
+use Rattle.std.proofs.lemmas.Slice.{take-put_mid}
+use borrow.Rule.Slice.PartMut.{put_mid}
+use Rattle.std.proofs.lemmas.List.Kept.{AllPairs-from_increasing}
 
 -- one transition more, by a class of which none led so far, leads by its class
 target-same : (default_target : ℕ) (edges : List Edge) (e : Edge) → All (λ f. f.class ≢ e.class) edges

@@ -1,9 +1,7 @@
 -- How many words and how many entries the engines take, as the definitions compute them for worked lists of patterns.
-use Rattle.std.specs.Prelude.{◌≡◌, ℕ, ◌*◌, Bool, true, false, List, [], ◌∷◌, codes, map, refl}
-use Rattle.ac_automaton.specs.Util.{alphabet_len, Both, Built, class_of, classes_of, LeftmostFirst, MatchKind, singletons, Standard, StartKind, state_count, stride, stride2, Unanchored}
+use Rattle.ac_util.proofs.Prelude.{◌≡◌, ℕ, ◌*◌, Bool, true, false, List, [], ◌∷◌, codes, map, refl}
+use Rattle.ac_engines.specs.Prelude.{alphabet_len, Both, Built, class_of, classes_of, LeftmostFirst, MatchKind, singletons, Standard, StartKind, state_count, stride, stride2, Unanchored, transition_bytes_of, plain_of, classes_by, Dense, packed_words, Sparse, table_rows, words_of_state}
 use Rattle.ac_util.specs.declared.search.StartKind.TheVariants.{Anchored as AnchoredAlone}
-use Rattle.ac_automaton.specs.Prelude.{transition_bytes_of, plain_of}
-use Rattle.ac_engines.specs.Prelude.{classes_by, Dense, packed_words, Sparse, table_rows, words_of_state}
 
 -- three patterns, two of which begin alike, and one alone
 abbrev three : List (List ℕ)

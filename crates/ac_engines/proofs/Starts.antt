@@ -1,6 +1,6 @@
 -- Where the start leads.
-use Rattle.std.proofs.Common.{◌≡◌, ℕ, ◌<◌, Bool, true, false, ◌⊎◌, inl, inr, List, [], ◌∷◌, map, refl, arith, ◌&&◌, if◌then◌else◌, rules}
-use Rattle.ac_automaton.specs.Util.{begins_with_pattern, is_leftmost, MatchKind, plain, shortest_len}
+use Rattle.ac_util.proofs.Prelude.{◌≡◌, ℕ, ◌<◌, Bool, true, false, ◌⊎◌, inl, inr, List, [], ◌∷◌, map, refl, arith, ◌&&◌, if◌then◌else◌, rules}
+use Rattle.ac_engines.specs.Prelude.{begins_with_pattern, is_leftmost, MatchKind, plain, shortest_len}
 
 -- the empty string begins with a pattern where the shortest one is empty
 pub begins-shortest : (ignores_case : Bool) (patterns : List (List ℕ)) → shortest_len patterns ≡ 0

@@ -1,9 +1,7 @@
 -- Which states of a trie have rows in a DFA, and that these stand apart.
-use Rattle.std.proofs.Common.{◌≡◌, ◌≢◌, ◌⊎◌, inl, inr, ℕ, zero, suc, ◌+◌, ◌*◌, ◌<◌, ◌≤◌, List, [], ◌∷◌, length, slice_index_or, refl, arith, Some, None, slice_get, rules}
-use Rattle.std.proofs.lemmas.Grind.{common_steps}
-use Rattle.ac_automaton.specs.Util.{alphabet_len, Both, class_at, failure, MatchKind, No, Node, StartKind, Unanchored}
+use Rattle.ac_util.proofs.Prelude.{◌≡◌, ◌≢◌, ◌⊎◌, inl, inr, ℕ, zero, suc, ◌+◌, ◌*◌, ◌<◌, ◌≤◌, List, [], ◌∷◌, length, slice_index_or, refl, arith, Some, None, slice_get, rules, common_steps}
+use Rattle.ac_engines.specs.Prelude.{alphabet_len, Both, class_at, failure, MatchKind, No, Node, StartKind, Unanchored, anchored_shift, Filling, HasRow, MayFill, row_at, row_input, width}
 use Rattle.ac_util.specs.declared.search.StartKind.TheVariants.{Anchored as AnchoredAlone}
-use Rattle.ac_engines.specs.Prelude.{anchored_shift, Filling, HasRow, MayFill, row_at, row_input, width}
 use Rattle.ac_engines.proofs.Numbered.{inner-alive, place-inner, place-start}
 
 -- an unanchored row stands at the place of its state

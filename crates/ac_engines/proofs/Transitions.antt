@@ -1,14 +1,8 @@
 -- Which transitions stand in the words of a state.
-use Rattle.std.proofs.Common.{refl, ◌≡◌, ◌≢◌, ℕ, zero, suc, ◌+◌, ◌/◌, ◌%◌, ◌<◌, List, [], ◌∷◌, length, map, take, drop, ap, sym, subst, ◌∙◌, arith, All, slice_index_or, Option, Some, None, rules}
-use Rattle.std.specs.Borrow.{Bor}
+use Rattle.ac_util.proofs.Prelude.{refl, ◌≡◌, ◌≢◌, ℕ, zero, suc, ◌+◌, ◌/◌, ◌%◌, ◌<◌, List, [], ◌∷◌, length, map, take, drop, ap, sym, subst, ◌∙◌, arith, All, slice_index_or, Option, Some, None, rules, Bor, range_with_len, get_or_append_left, All-drop, length-map-range_with_len, common_steps}
+use Rattle.ac_engines.specs.Prelude.{BeginsWith, class_of_place, class_words, Dense, Edge, edges_from, Format, One, Sparse, PackedState, target_by, transitions_of_state, word_of}
 use Rattle.std.specs.Iterator.{MakesProgress, item_count}
 use Rattle.std.specs.Int.{div_ceil, to_le_bytes, w32}
-use Rattle.std.specs.List.{range_with_len}
-use Rattle.std.proofs.lemmas.List.{get_or_append_left}
-use Rattle.std.proofs.lemmas.List.Elements.{All-drop}
-use Rattle.std.proofs.lemmas.List.FromFn.{length-map-range_with_len}
-use Rattle.std.proofs.lemmas.Grind.{common_steps}
-use Rattle.ac_engines.specs.Prelude.{BeginsWith, class_of_place, class_words, Dense, Edge, edges_from, Format, One, Sparse, PackedState, target_by, transitions_of_state, word_of}
 use Rattle.ac_engines.proofs.ClassWords.{edge_classes, targets_of}
 use Rattle.ac_engines.proofs.PackedWords.{after, dense-words, form, form-dense, form-one, form-sparse, one-words, splits-at}
 

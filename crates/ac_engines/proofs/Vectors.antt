@@ -1,8 +1,6 @@
 -- States whose words are written by hand.
-use Rattle.std.proofs.Common.{refl, ◌≡◌, ℕ, zero, suc, ◌+◌, ◌<◌, ◌≤◌, ◌≢◌, List, [], ◌∷◌, ◌++◌, length, map, arith, All, slice_index, slice_index_or}
-use Rattle.std.specs.List.Sorted.{IsStrictlyIncreasing}
-use Rattle.ac_engines.specs.Contiguous.Words.{Fits}
-use Rattle.ac_engines.specs.Prelude.{AreNamed, BeginsWith, class_words, Dense, Edge, FAIL, Format, One, ONE_MATCH, Sparse, format_words, PackedState, target_by}
+use Rattle.ac_util.proofs.Prelude.{refl, ◌≡◌, ℕ, zero, suc, ◌+◌, ◌<◌, ◌≤◌, ◌≢◌, List, [], ◌∷◌, ◌++◌, length, map, arith, All, slice_index, slice_index_or, IsStrictlyIncreasing}
+use Rattle.ac_engines.specs.Prelude.{Fits, AreNamed, BeginsWith, class_words, Dense, Edge, FAIL, Format, One, ONE_MATCH, Sparse, format_words, PackedState, target_by}
 
 -- a transition
 abbrev edge : ℕ → ℕ → Edge

@@ -1,9 +1,6 @@
 -- How many words the state of a node takes at the most.
-use Rattle.std.proofs.Common.{ℕ, ◌+◌, ◌≤◌, length, arith}
-use Rattle.std.proofs.lemmas.Grind.{common_steps}
-use Rattle.ac_automaton.specs.Util.{Built, No, Node}
-use Rattle.ac_automaton.specs.Prelude.{matches_of}
-use Rattle.ac_engines.specs.Prelude.{node_words}
+use Rattle.ac_util.proofs.Prelude.{ℕ, ◌+◌, ◌≤◌, length, arith, common_steps}
+use Rattle.ac_engines.specs.Prelude.{Built, No, Node, matches_of, node_words}
 
 -- so does the state of a node
 pub node_words-most : (built : Built) (dense_depth classes : ℕ) (u : Node) → classes ≤ 256

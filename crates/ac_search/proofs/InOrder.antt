@@ -1,12 +1,10 @@
 -- The matches of a walk stand one after another.
-use Rattle.std.proofs.Common.{◌≡◌, ℕ, suc, ◌≤◌, false, List, [], ◌∷◌, length, arith, All, AllPairs}
-use Rattle.std.proofs.lemmas.List.Elements.{All-head, All-tail, All-weaker}
-use Rattle.ac_automaton.specs.Util.{Built, has_empty, InputView, LiesIn, Occurrence, order_of, search_in, walk_result}
-use Rattle.ac_util.specs.Walk.{IsAfter}
+use Rattle.ac_util.proofs.Prelude.{◌≡◌, ℕ, suc, ◌≤◌, false, List, [], ◌∷◌, length, arith, All, AllPairs, All-head, All-tail, All-weaker}
+use Rattle.ac_search.specs.Prelude.{order_of, walk_result, IsAfter, StandApart, StandInOrder}
+use Rattle.ac_automaton.specs.Util.{Built, has_empty, InputView, LiesIn, Occurrence, search_in}
 use Rattle.ac_util.proofs.Lying.{walk_result-lie}
 use Rattle.ac_util.proofs.Shortest.{none-empty}
 use Rattle.ac_util.proofs.Walks.{walk-ordered}
-use Rattle.ac_search.specs.Alike.{StandApart, StandInOrder}
 
 -- matches that lie in the haystack, that are each after those before, and that start no earlier than low
 stand : (built : Built) (input : InputView) (low : ℕ) (ms : List Occurrence) → All (LiesIn built input) ms

@@ -1,13 +1,7 @@
 -- An engine answers for a searcher that supports some of its starts.
-use Rattle.std.proofs.Common.{◌≡◌, sym, ◌∙◌, Some, None, ◌⊎◌, Result, Ok, Err, MatchResult, arith, rules}
-use Rattle.std.proofs.lemmas.Grind.{common_steps}
-use Rattle.ac_automaton.specs.Util.{AnswersUnless, InputView, Both, Built, find_refusal, MatchError, No, overlapping_refusal, search_in, start_refusal, StartKind, stream_refusal}
-use Rattle.ac_automaton.specs.declared.automaton.overlap.OverlappingState.{OverlappingState}
-use Rattle.ac_automaton.specs.Overlaps.{GivesNext}
-use Rattle.ac_automaton.specs.Streams.{Streaming, initial_stream}
-use Rattle.ac_search.specs.declared.ahocorasick.engine.Engine.{Engine}
-use Rattle.ac_search.specs.Engines.{built_of, searcher_of, states_of, Supports}
-use Rattle.ac_search.specs.Searchers.{Searcher, listed_in, stands_in, HasBegun}
+use Rattle.ac_util.proofs.Prelude.{◌≡◌, sym, ◌∙◌, Some, None, ◌⊎◌, Result, Ok, Err, MatchResult, arith, rules, common_steps}
+use Rattle.ac_search.specs.Prelude.{AnswersUnless, Both, find_refusal, MatchError, No, overlapping_refusal, start_refusal, StartKind, stream_refusal, OverlappingState, GivesNext, Streaming, initial_stream, Engine, built_of, searcher_of, states_of, Supports, Searcher, listed_in, stands_in, HasBegun}
+use Rattle.ac_automaton.specs.Util.{InputView, Built, search_in}
 
 -- a find or a walk is refused for its start alone
 find-refusal : (built : Built) (input : InputView)

@@ -1,7 +1,7 @@
 -- Something is picked exactly if something occurs.
-use Rattle.std.proofs.Common.{◌≡◌, ◌≢◌, refl, sym, subst, Option, Some, None, ◌↔◌, IsTrue, is_some, rules}
-use Rattle.std.proofs.lemmas.Bool.{false≢true}
-use Rattle.ac_automaton.specs.Util.{IsPick, MatchKind, Occurrence, Occurs, pick, Search}
+use Rattle.ac_util.proofs.Prelude.{◌≡◌, ◌≢◌, refl, sym, subst, Option, Some, None, ◌↔◌, IsTrue, is_some, rules, false≢true}
+use Rattle.ac_search.specs.Prelude.{IsPick, MatchKind, Occurs, pick, Search}
+use Rattle.ac_automaton.specs.Util.{Occurrence}
 use Rattle.ac_util.proofs.Picks.{pick-IsPick}
 
 -- what is picked is some match exactly if something occurs

@@ -1,22 +1,13 @@
 -- What a loop over the matches of a stream has seen, from one call to the next.
-use Rattle.std.proofs.Common.{◌≡◌, ◌≢◌, ℕ, suc, ◌+◌, ◌≤◌, Bool, true, List, [], ◌∷◌, ◌++◌, arith, refl, length, slice_get, Some, take, ap, subst, sym, ◌∙◌}
+use Rattle.ac_util.proofs.Prelude.{◌≡◌, ◌≢◌, ℕ, suc, ◌+◌, ◌≤◌, Bool, true, List, [], ◌∷◌, ◌++◌, arith, refl, length, slice_get, Some, take, ap, subst, sym, ◌∙◌, take-append_seam, take-suc, length-take-le, take_all, take-take, common_steps, get_or_from_slice_get, slice_get_within}
+use Rattle.ac_search.specs.Prelude.{FailsToRead, IsSettledBy, LeftmostFirst, LeftmostLongest, MatchKind, Reading, Standard, stream_result, usize_max, StreamError, Phase, Ended, Failed, Open, EndsNow, GivesError, GivesNextMatch, GivesNone, GoesOnBy, IsSettledIn, KeepsGiven, Streaming, with_start, BeginsUnderway, given_matches, GivenStay, HasGivenAll, HasGivenOne, HasStoppedAt, IsUnderway}
 use Rattle.std.proofs.KnownBytes.{Consumes-nil, Consumes-trans}
-use Rattle.std.proofs.Math.Seq.{take-append_seam, take-suc}
-use Rattle.std.proofs.lemmas.List.{length-take-le, take_all, take-take}
-use Rattle.std.proofs.lemmas.Grind.{common_steps}
-use Rattle.std.proofs.lemmas.Option.{get_or_from_slice_get, slice_get_within}
 use Rattle.std.specs.Io.KnownBytes.{Consumes, IsAtEnd}
-use Rattle.ac_automaton.specs.Util.{Built, FailsToRead, IsSettledBy, LeftmostFirst, LeftmostLongest, LiesIn, MatchKind, Occurrence, Reading, Standard, stream_result, usize_max, whole_input}
-use Rattle.ac_util.specs.declared.error.StreamError.{StreamError}
+use Rattle.ac_automaton.specs.Util.{Built, LiesIn, Occurrence, whole_input}
 use Rattle.ac_util.proofs.GoesOn.{stream_result-begins}
 use Rattle.ac_util.proofs.Lying.{walk_result-lie}
 use Rattle.ac_util.proofs.Settled.{settled-stays}
 use Rattle.ac_util.proofs.Shortest.{none-empty}
-use Rattle.ac_automaton.specs.declared.automaton.stream_settled.Phase.{Phase}
-use Rattle.ac_automaton.specs.declared.automaton.stream_settled.Phase.TheVariants.{Ended, Failed, Open}
-use Rattle.ac_automaton.specs.Streams.{EndsNow, GivesError, GivesNextMatch, GivesNone, GoesOnBy, IsSettledIn, KeepsGiven, Streaming}
-use Rattle.ac_search.specs.Searchers.{with_start}
-use Rattle.ac_search.specs.StreamLoops.{BeginsUnderway, given_matches, GivenStay, HasGivenAll, HasGivenOne, HasStoppedAt, IsUnderway}
 use Rattle.ac_search.proofs.StreamsServed.{settled-by}
 
 module _ (built : Built) (bytes : List ℕ) where

@@ -1,10 +1,9 @@
 -- The replacement of a stream by an engine that supports some starts of its searcher: what it leaves is the searcher's.
-use Rattle.std.proofs.Common.{◌≡◌, ◌∙◌, ◌+◌, ℕ, Bool, List, [], ◌∷◌, inl, inr, None, Result, Ok, Err, ◌⊎◌, subst, rules, arith}
-use Rattle.std.specs.Borrow.{Bor, MutBor}
+use Rattle.ac_util.proofs.Prelude.{◌≡◌, ◌∙◌, ◌+◌, ℕ, Bool, List, [], ◌∷◌, inl, inr, None, Result, Ok, Err, ◌⊎◌, subst, rules, arith, Bor, MutBor, common_steps}
+use Rattle.ac_search.specs.Prelude.{AnswersStream, AreDecided, Both, FailsToReplace, FailsToReplaceWith, IsSettled, IsSettledAt, IsSettledBefore, IsSettledBy, LeftmostFirst, LeftmostLongest, MatchKind, No, NoneOpen, Reading, ReplacesStream, ReplacesStreamWith, Standard, start_refusal, StartKind, StepsAreSettled, stream_refusal, StreamError, TextIsSettled, Writing}
 use Rattle.std.specs.Fn.{Mut}
 use Rattle.std.specs.declared.io.Error.{Error}
-use Rattle.std.proofs.lemmas.Grind.{common_steps}
-use Rattle.ac_automaton.specs.Util.{AnswersStream, AreDecided, Both, Built, FailsToReplace, FailsToReplaceWith, IsSettled, IsSettledAt, IsSettledBefore, IsSettledBy, LeftmostFirst, LeftmostLongest, MatchKind, No, NoneOpen, Occurrence, Reading, ReplacesStream, ReplacesStreamWith, Standard, start_refusal, StartKind, StepsAreSettled, stream_refusal, StreamError, TextIsSettled, Writing}
+use Rattle.ac_automaton.specs.Util.{Built, Occurrence}
 use Rattle.ac_search.proofs.Served.{stream-refusals}
 
 module _ (engine : Built) (start_kind : StartKind) where

@@ -1,12 +1,9 @@
 -- What the replacement of a stream leaves of its writer, by the stream alone.
-use Rattle.std.proofs.Common.{◌≡◌, ℕ, Bool, List, inl, inr, subst, sym, Option, Result, Ok, Err, length, map}
+use Rattle.ac_util.proofs.Prelude.{◌≡◌, ℕ, Bool, List, inl, inr, subst, sym, Option, Result, Ok, Err, length, map}
+use Rattle.ac_search.specs.Prelude.{Calls, IsStreamRefused, MatchError, Reading, stream_refusal, StreamError, Writing, Calling, AlwaysWritesOut, by_length, ExchangesBeginning, text_of, Io, Match, Memory, TooLong, WriteZero, ClosuresWrite, ListsWrite}
 use Rattle.std.specs.declared.io.Error.{Error}
-use Rattle.ac_automaton.specs.Util.{Built, Calls, IsStreamRefused, MatchError, Occurrence, Reading, stream_refusal, StreamError, Writing}
-use Rattle.ac_automaton.specs.Answers.{Calling}
-use Rattle.ac_util.specs.Stream.{AlwaysWritesOut, by_length, ExchangesBeginning, text_of}
-use Rattle.ac_util.specs.declared.error.StreamError.TheVariants.{Io, Match, Memory, TooLong, WriteZero}
+use Rattle.ac_automaton.specs.Util.{Built, Occurrence}
 use Rattle.ac_util.proofs.StreamExchanges.{all-alike, beginning-alike, by_length-same, closure-begun, closure-whole, texts-begun, texts-whole, unchanged-begins}
-use Rattle.ac_search.specs.Alike.{ClosuresWrite, ListsWrite}
 
 -- a call that is refused has changed nothing
 refused-unchanged : (refusal : Option MatchError) (unchanged : Type 0) (e : StreamError) → IsStreamRefused refusal unchanged e

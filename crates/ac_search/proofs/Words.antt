@@ -1,16 +1,11 @@
 -- Which patterns are texts: those of ASCII bytes, and those that come from texts of which none is empty.
-use Rattle.std.proofs.Common.{◌≡◌, ◌≢◌, ℕ, ◌<◌, ◌==◌, false, List, [], ◌∷◌, ◌++◌, All, arith, length, subst, sym}
-use Rattle.std.specs.Borrow.{Bor}
-use Rattle.std.specs.List.{list_any}
+use Rattle.ac_util.proofs.Prelude.{◌≡◌, ◌≢◌, ℕ, ◌<◌, ◌==◌, false, List, [], ◌∷◌, ◌++◌, All, arith, length, subst, sym, Bor, list_any, common_steps, map-append, All-cons, All-nil, All-push}
+use Rattle.ac_search.specs.Prelude.{AreTexts, AreAscii, AreWords}
 use Rattle.std.specs.Str.{IsUtf8}
 use Rattle.std.proofs.lemmas.Str.{IsUtf8-from_ascii}
 use Rattle.std.proofs.lemmas.Str.Ascii.{IsAscii-from_all}
-use Rattle.std.proofs.lemmas.Grind.{common_steps}
-use Rattle.std.proofs.lemmas.List.{map-append}
-use Rattle.std.proofs.lemmas.List.Elements.{All-cons, All-nil, All-push}
-use Rattle.ac_search.specs.Built.{AreTexts, Built, has_empty}
+use Rattle.ac_search.specs.Built.{Built, has_empty}
 use Rattle.ac_search.specs.Patterns.{bytes_of}
-use Rattle.ac_search.specs.Alike.{AreAscii, AreWords}
 
 -- each byte of an ASCII string is below 128
 all_ascii : (bs : List ℕ) → AreAscii bs → All (λ b. b < 128) bs

@@ -9,12 +9,12 @@ use Rattle.ac_automaton.specs.Util.{Both, BuildError, Built, InputView, MatchErr
 use Rattle.ac_util.specs.declared.search.StartKind.TheVariants.{Anchored as AnchoredAlone}
 use Rattle.ac_automaton.specs.Builds.{AnswersBuild, EngineSettings, IsAllowed, engine_built_by, fits, refusal_or, state_refusal, usual_engine_settings}
 use Rattle.ac_automaton.specs.Iterators.{Walking, initial_walk}
-use Rattle.ac_automaton.specs.Overlaps.{Overlapping, initial_listing, GivesNext}
+use Rattle.ac_automaton.specs.Overlaps.{Overlapping, initial_listing, GivesNext, given_by}
 use Rattle.ac_search.specs.declared.ahocorasick.choice.AhoCorasickKind.{AhoCorasickKind}
 use Rattle.ac_search.specs.declared.ahocorasick.choice.AhoCorasickKind.TheVariants.{ContiguousNFA, DFA, NoncontiguousNFA}
 use Rattle.ac_automaton.specs.Streams.{StreamReading, Streaming, initial_stream}
 use Rattle.ac_automaton.specs.declared.automaton.overlap.OverlappingState.{OverlappingState}
-use Rattle.ac_automaton.specs.Prelude.{IsPlaced, place_by}
+use Rattle.ac_automaton.specs.Prelude.{IsPlaced}
 
 -- those of each engine
 pub data States : Type 0 where
@@ -169,7 +169,7 @@ HasPlace searcher input state =
 
 -- how many items of that listing were given
 abbrev pub rank_in : Searcher → InputView → OverlappingState → ℕ
-rank_in searcher input state = place_by (listed_in searcher.states) (search_in searcher.built input) state
+rank_in searcher input state = given_by (listed_in searcher.states) (search_in searcher.built input) state.reached
 
 -- a call has done so; or it is refused, and the state is as it was
 abbrev pub FindsItem : Searcher → InputView → OverlappingState → Result (Unit {0}) MatchError → OverlappingState → Type 0

@@ -32,7 +32,8 @@ pub use stream_iter::StreamFindIter;
 ///
 /// `AhoCorasick::new` builds one with the usual settings, `AhoCorasickBuilder` with others. The patterns, the match
 /// kind, the case setting and the start kind decide every answer, whichever engine serves the searcher
-/// (`laws::engines_agree`). Contracts see what it was built from, and which engine serves it. This ports `AhoCorasick`.
+/// (`laws::engines_agree`). Contracts see what it was built from, and which engine serves it. Threads may share a searcher:
+/// it is `Send` and `Sync` where its allocator is, and a clone shares its engine. This ports `AhoCorasick`.
 ///
 /// ```
 /// let patterns: &[&[u8]] = &[b"apple", b"maple", b"Snapple"];

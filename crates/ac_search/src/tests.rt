@@ -17,8 +17,11 @@ mod replace;
 mod rows;
 mod stream;
 mod stream_rows;
+mod stream_text_rows;
+mod stream_texts;
 mod util;
 mod walks;
+mod worked;
 
 /// A pattern number, a start and an end.
 type Triple = (usize, usize, usize);

@@ -1,12 +1,9 @@
 -- One more byte of a text: how the pick changes, by the matches of the node that an automaton reaches.
 --
 -- Everything holds for each match kind of the automaton and for both anchorings.
-use Rattle.std.proofs.Common.{◌≡◌, ℕ, zero, suc, ◌+◌, ◌≤◌, Bool, true, false, ◌&&◌, cond, List, [], ◌∷◌, ◌++◌, length, ◌⊎◌, inl, inr, refl, ap, sym, ◌∙◌, subst, arith, Option, Some, None, rules}
-use Rattle.std.proofs.lemmas.Bool.{and_parts, false≢true, cond-false, cond-true}
-use Rattle.std.proofs.lemmas.Grind.{common_steps}
-use Rattle.ac_util.specs.Prelude.{begins_with_pattern, equal_to, is_leftmost, IsFirst, LeftmostFirst, LeftmostLongest, matches, MatchKind, No, Occurrence, participates, pattern_of, Standard, Yes}
+use Rattle.ac_util.proofs.Prelude.{◌≡◌, ℕ, zero, suc, ◌+◌, ◌≤◌, Bool, true, false, ◌&&◌, cond, List, [], ◌∷◌, ◌++◌, length, ◌⊎◌, inl, inr, refl, ap, sym, ◌∙◌, subst, arith, Option, Some, None, rules, and_parts, false≢true, cond-false, cond-true, common_steps}
+use Rattle.ac_util.specs.Prelude.{begins_with_pattern, equal_to, is_leftmost, IsFirst, LeftmostFirst, LeftmostLongest, matches, MatchKind, No, Occurrence, participates, pattern_of, Standard, Yes, Prefixes, Stands, standing_at, IsPickIn}
 use Rattle.ac_util.specs.declared.search.Anchored.{Anchored}
-use Rattle.ac_util.specs.Commits.{Prefixes, Stands, standing_at, IsPickIn}
 use Rattle.ac_util.proofs.Lists.{IsIn, none-from_nil}
 use Rattle.ac_util.proofs.Participants.{Equals, begins-from_Prefixes, leader, leader-least, leader-takes_part, participant-least, all_take_part, IsIn-equal_to, IsIn-from_equal_to, equal_to-ordered}
 use Rattle.ac_util.proofs.Prefixes.{starts_with-itself}

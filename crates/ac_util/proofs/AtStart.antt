@@ -1,8 +1,5 @@
 -- Where an unanchored automaton is at its start: nothing that occurs has begun before and ends there or later.
-use Rattle.std.proofs.Common.{◌≡◌, ℕ, zero, suc, ◌-◌, ◌<◌, ◌≤◌, Bool, true, false, cond, List, [], ◌∷◌, length, take, drop, inl, inr, refl, ap, sym, ◌∙◌, subst, arith, nat_eq, length-drop, Option, None, Some, rules}
-use Rattle.std.specs.List.{starts_with}
-use Rattle.std.proofs.lemmas.Bool.{cases_lt, false≢true}
-use Rattle.std.proofs.lemmas.List.{length-map, take_all, take-take}
+use Rattle.ac_util.proofs.Prelude.{◌≡◌, ℕ, zero, suc, ◌-◌, ◌<◌, ◌≤◌, Bool, true, false, cond, List, [], ◌∷◌, length, take, drop, inl, inr, refl, ap, sym, ◌∙◌, subst, arith, nat_eq, length-drop, Option, None, Some, rules, starts_with, cases_lt, false≢true, length-map, take_all, take-take}
 use Rattle.ac_util.specs.Prelude.{from, is_node, IsPick, MatchKind, No, Occurrence, Occurs, participates, pattern_of, pick, plain, plain_patterns, reached, Search, text}
 use Rattle.ac_util.proofs.Participants.{is_node-participant}
 use Rattle.ac_util.proofs.Picks.{pick-IsPick, pick-from_IsPick}

@@ -1,7 +1,5 @@
 -- Under Standard the walk over a beginning of the span is those matches of the whole walk that end within it.
-use Rattle.std.proofs.Common.{◌≡◌, ℕ, zero, suc, ◌+◌, ◌-◌, ◌<◌, ◌≤◌, Bool, true, false, cond, List, [], ◌∷◌, refl, ap, sym, ◌∙◌, arith, Option, Some, None, filter, nat_le, nat_eq, rules}
-use Rattle.std.proofs.lemmas.Bool.{and_parts, eqb-true, cond-false, le-leb, lt-leb, leb-false}
-use Rattle.std.proofs.lemmas.Grind.{common_steps}
+use Rattle.ac_util.proofs.Prelude.{◌≡◌, ℕ, zero, suc, ◌+◌, ◌-◌, ◌<◌, ◌≤◌, Bool, true, false, cond, List, [], ◌∷◌, refl, ap, sym, ◌∙◌, arith, Option, Some, None, filter, nat_le, nat_eq, rules, and_parts, eqb-true, cond-false, le-leb, lt-leb, leb-false, common_steps}
 use Rattle.ac_util.specs.Prelude.{continued, from, IsPick, next_match, Occurrence, Occurs, pick, repeats, Search, Standard, unless_repeated, walk, walk_after}
 use Rattle.ac_util.proofs.Lists.{filter-none}
 use Rattle.ac_util.proofs.Picks.{pick-IsPick, pick-from_IsPick}

@@ -1,8 +1,5 @@
 -- Two bytes of one class lead alike from every node, and a byte of a pattern has a class of its own.
-use Rattle.std.proofs.Common.{◌≡◌, ℕ, zero, suc, ◌+◌, ◌-◌, ◌<◌, ◌≤◌, Bool, true, false, ◌||◌, cond, List, [], ◌∷◌, ◌++◌, map, get_or, ◌⊎◌, inl, inr, refl, ap, sym, ◌∙◌, subst, Some, None, add-one, arith, nat_eq, rules}
-use Rattle.std.specs.List.{list_any, starts_with}
-use Rattle.std.proofs.lemmas.Bool.{or_cases, or_left, or_right, and_parts, cases_lt, cond-false, false≢true}
-use Rattle.std.proofs.lemmas.Grind.{common_steps}
+use Rattle.ac_util.proofs.Prelude.{◌≡◌, ℕ, zero, suc, ◌+◌, ◌-◌, ◌<◌, ◌≤◌, Bool, true, false, ◌||◌, cond, List, [], ◌∷◌, ◌++◌, map, get_or, ◌⊎◌, inl, inr, refl, ap, sym, ◌∙◌, subst, Some, None, add-one, arith, nat_eq, rules, list_any, starts_with, or_cases, or_left, or_right, and_parts, cases_lt, cond-false, false≢true, common_steps}
 use Rattle.ac_util.specs.Prelude.{class_of, is_empty, is_node, IsLawful, MatchKind, No, Node, participants, pattern_of, plain, plain_byte, same_byte, is_in_patterns, step, Yes}
 use Rattle.ac_util.specs.declared.search.Anchored.{Anchored}
 use Rattle.ac_util.proofs.NodeCount.{any_passes}

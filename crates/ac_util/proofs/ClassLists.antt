@@ -1,8 +1,5 @@
 -- Lists of classes: those of the patterns' bytes, and each byte as a class of its own.
-use Rattle.std.proofs.Common.{◌≡◌, ℕ, zero, suc, ◌+◌, ◌-◌, ◌<◌, ◌≤◌, Bool, false, List, length, get_or, replicate, inl, inr, refl, ap, sym, ◌∙◌, arith, rules}
-use Rattle.std.proofs.lemmas.Bool.{false≢true}
-use Rattle.std.proofs.lemmas.List.FromFn.{length-range_with_len, get_or-range_with_len, length-map-range_with_len, get_or-map-range_with_len}
-use Rattle.std.proofs.lemmas.Grind.{same_number_lists, common_steps}
+use Rattle.ac_util.proofs.Prelude.{◌≡◌, ℕ, zero, suc, ◌+◌, ◌-◌, ◌<◌, ◌≤◌, Bool, false, List, length, get_or, replicate, inl, inr, refl, ap, sym, ◌∙◌, arith, rules, false≢true, length-range_with_len, get_or-range_with_len, length-map-range_with_len, get_or-map-range_with_len, same_number_lists, common_steps}
 use Rattle.ac_util.specs.Prelude.{alphabet_len, AreClasses, class_at, class_of, classes_of, IsLawful, MatchKind, SetsApart, singletons}
 use Rattle.ac_util.proofs.ClassLemmas.{class-zero, class-rises, class-rises_by_one, strangers, class_of-lawful}
 

@@ -1,6 +1,6 @@
 -- Classes of bytes, as the definitions compute them.
-use Rattle.std.specs.Prelude.{◌≡◌, true, false, [], ◌∷◌, codes, map, refl}
-use Rattle.ac_util.specs.Classes.{class_of, singletons, stride2}
+use Rattle.ac_util.proofs.Prelude.{◌≡◌, true, false, [], ◌∷◌, codes, map, refl}
+use Rattle.ac_util.specs.Prelude.{class_of, singletons, stride2}
 use Rattle.ac_util.proofs.SearchRows.{nested_words}
 
 -- a byte and its class, for "b", "abc" and "abcd": the last class is that of all bytes after the letter d

@@ -1,8 +1,6 @@
 -- What a walk gives of a string whatever follows it, one byte more at a time.
-use Rattle.std.proofs.Common.{◌≡◌, ℕ, ◌+◌, ◌-◌, ◌<◌, ◌≤◌, true, List, [], ◌∷◌, ◌++◌, length, length-append, length-drop, map, drop, refl, ap, sym, ◌∙◌, arith, None, Some, rules}
-use Rattle.std.proofs.lemmas.List.{append-nil, append_assoc, drop-append-le, drop-drop, map-append}
-use Rattle.ac_util.specs.Prelude.{from, Node, is_leftmost, last_end, matches, MatchKind, No, Occurrence, outward, pattern_of, reached, Search, step, text, walk}
-use Rattle.ac_util.specs.Commits.{IsPickIn, IsSearchFor, Commits, Anything, Next, Nothing}
+use Rattle.ac_util.proofs.Prelude.{◌≡◌, ℕ, ◌+◌, ◌-◌, ◌<◌, ◌≤◌, true, List, [], ◌∷◌, ◌++◌, length, length-append, length-drop, map, drop, refl, ap, sym, ◌∙◌, arith, None, Some, rules, append-nil, append_assoc, drop-append-le, drop-drop, map-append}
+use Rattle.ac_util.specs.Prelude.{from, Node, is_leftmost, last_end, matches, MatchKind, No, Occurrence, outward, pattern_of, reached, Search, step, text, walk, IsPickIn, IsSearchFor, Commits, Anything, Nothing}
 use Rattle.ac_util.proofs.Advance.{pick-stays}
 use Rattle.ac_util.proofs.Found.{matches-reached}
 use Rattle.ac_util.proofs.Picks.{same_occurrence}
@@ -11,6 +9,10 @@ use Rattle.ac_util.proofs.Spans.{text_length}
 use Rattle.ac_util.proofs.Standing.{Stands-end}
 use Rattle.ac_util.proofs.NodeRests.{IsRest, pick-in_node, reached-rest}
 use Rattle.ac_util.proofs.PickedWalks.{search-from, text-from, walk-dead, walk-none, walk-whole}
+
+-- what begins with this byte
+abbrev pub Next : ℕ → List ℕ → Type 0
+Next b y = (rest : List ℕ) × (y ≡ b ∷ rest)
 
 -- where the last of some matches ends, with others after them
 last_end-others : (ms : List Occurrence) (m : Occurrence) (ns : List Occurrence) → last_end (ms ++ m ∷ ns) ≡ last_end (m ∷ ns)

@@ -1,8 +1,6 @@
 -- A step from a node in which something occurs to the dead node: its looks are paid by the node's length, without what
 -- follows the occurrence, and one.
-use Rattle.std.proofs.Common.{◌≡◌, ℕ, zero, suc, ◌+◌, ◌-◌, ◌<◌, ◌≤◌, Bool, true, false, cond, List, [], ◌∷◌, ◌++◌, length, drop, refl, ap, sym, ◌∙◌, arith, None, Some}
-use Rattle.std.proofs.lemmas.Bool.{and_from}
-use Rattle.std.proofs.lemmas.List.{drop-drop}
+use Rattle.ac_util.proofs.Prelude.{◌≡◌, ℕ, zero, suc, ◌+◌, ◌-◌, ◌<◌, ◌≤◌, Bool, true, false, cond, List, [], ◌∷◌, ◌++◌, length, drop, refl, ap, sym, ◌∙◌, arith, None, Some, and_from, drop-drop}
 use Rattle.ac_util.specs.Prelude.{begins_with_pattern, failure, is_leftmost, is_node, looks_within, MatchKind, No, Node, reached, step}
 use Rattle.ac_util.proofs.NodeRests.{reached-rest}
 use Rattle.ac_util.proofs.Failures.{failure-cons, step-failure, step-own}

@@ -1,10 +1,5 @@
 -- A stream under a leftmost kind: matches that stay whatever follows are decided, and so settle it.
-use Rattle.std.proofs.Common.{◌≡◌, ℕ, suc, ◌+◌, ◌-◌, ◌<◌, ◌≤◌, true, List, [], ◌∷◌, ◌++◌, length, get_or, map, length-append, take, drop, refl, ap, sym, ◌∙◌, subst, arith, Option, None, Some, All, nat_eq, slice_range, rules}
-use Rattle.std.specs.List.{starts_with}
-use Rattle.std.proofs.Math.Seq.{drop-append_seam, take-append_seam, take-take}
-use Rattle.std.proofs.lemmas.List.{append-nil, get_or-map, length-map, take-append-drop, take-map}
-use Rattle.std.proofs.lemmas.List.Elements.{All-nil}
-use Rattle.std.proofs.lemmas.Grind.{common_steps}
+use Rattle.ac_util.proofs.Prelude.{◌≡◌, ℕ, suc, ◌+◌, ◌-◌, ◌<◌, ◌≤◌, true, List, [], ◌∷◌, ◌++◌, length, get_or, map, length-append, take, drop, refl, ap, sym, ◌∙◌, subst, arith, Option, None, Some, All, nat_eq, slice_range, rules, starts_with, drop-append_seam, take-append_seam, take-take, append-nil, get_or-map, length-map, take-append-drop, take-map, All-nil, common_steps}
 use Rattle.ac_util.specs.Prelude.{AreDecided, Built, from, is_leftmost, IsFirst, IsOpen, IsPick, IsSettledAt, last_end, LeftmostFirst, LeftmostLongest, MatchKind, next_match, NoneOpen, Occurrence, occurrence, Occurs, participates, pattern_of, pick, plain, Search, Standard, stream_result, walk_after}
 use Rattle.ac_util.proofs.Participants.{participant-least}
 use Rattle.ac_util.proofs.Picks.{pick-IsPick}

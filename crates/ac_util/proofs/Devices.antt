@@ -1,14 +1,9 @@
 -- Reading on, and writing on.
-use Rattle.std.proofs.Common.{◌≡◌, ◌≢◌, ◌+◌, ◌<◌, ℕ, zero, suc, List, [], ◌∷◌, ◌++◌, length, take, drop, ap, refl, arith, Bool, Option, slice_range, rules}
-use Rattle.std.proofs.lemmas.Bool.Decides.{nat_tests}
-use Rattle.std.proofs.lemmas.List.{length-take-le}
+use Rattle.ac_util.proofs.Prelude.{◌≡◌, ◌≢◌, ◌+◌, ◌<◌, ℕ, zero, suc, List, [], ◌∷◌, ◌++◌, length, take, drop, ap, refl, arith, Bool, Option, slice_range, rules, nat_tests, length-take-le, take-add, common_steps}
+use Rattle.ac_util.specs.Prelude.{Writing, WritesAll, FailsToRead, idle, Reading, ReadsAll, ReadsSome, StreamError}
 use Rattle.std.specs.Io.{StartsWith}
 use Rattle.std.specs.Io.KnownBytes.{Appends}
-use Rattle.std.proofs.Math.Seq.{take-add}
 use Rattle.std.proofs.KnownBytes.{Appends-trans}
-use Rattle.std.proofs.lemmas.Grind.{common_steps}
-use Rattle.ac_util.specs.Device.{Writing, WritesAll}
-use Rattle.ac_util.specs.Prelude.{FailsToRead, idle, Reading, ReadsAll, ReadsSome, StreamError}
 
 -- what was written so far with what a write has taken
 pub append-more : (a b c : Option (List ℕ)) (bytes : List ℕ) (at n : ℕ)

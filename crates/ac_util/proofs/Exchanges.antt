@@ -1,9 +1,7 @@
 -- The matches of a walk as a replacement meets them, and what it has written after each.
-use Rattle.std.proofs.Common.{◌≡◌, ℕ, zero, suc, ◌+◌, ◌-◌, ◌≤◌, Bool, true, false, List, [], ◌∷◌, length, refl, ap, arith, Option, Some, None, cond}
+use Rattle.ac_util.proofs.Prelude.{◌≡◌, ℕ, zero, suc, ◌+◌, ◌-◌, ◌≤◌, Bool, true, false, List, [], ◌∷◌, length, refl, ap, arith, Option, Some, None, cond, common_steps}
+use Rattle.ac_util.specs.Prelude.{AreInOrder, whole_input, Built, continued, exchanged, from, is_whole, MatchKind, next_match, Occurrence, order_of, Search, search_in, walk, walk_after, whole_characters}
 use Rattle.std.specs.Str.{IsCharBoundary}
-use Rattle.std.proofs.lemmas.Grind.{common_steps}
-use Rattle.ac_util.specs.Replacement.{AreInOrder}
-use Rattle.ac_util.specs.Prelude.{whole_input, Built, continued, exchanged, from, is_whole, MatchKind, next_match, Occurrence, order_of, Search, search_in, walk, walk_after, whole_characters}
 use Rattle.ac_util.proofs.PlainReplaced.{next-numbered}
 use Rattle.ac_util.proofs.Walks.{next-in_span}
 

@@ -1,7 +1,5 @@
 -- Failure targets lead to the same step, and the looks along them are paid by the length of the node.
-use Rattle.std.proofs.Common.{◌≡◌, ℕ, zero, suc, ◌+◌, ◌≤◌, Bool, true, false, cond, List, [], ◌∷◌, ◌++◌, length, refl, sym, ◌∙◌, arith, Some, None, rules}
-use Rattle.std.proofs.lemmas.List.{length_push}
-use Rattle.std.proofs.lemmas.Grind.{common_steps}
+use Rattle.ac_util.proofs.Prelude.{◌≡◌, ℕ, zero, suc, ◌+◌, ◌≤◌, Bool, true, false, cond, List, [], ◌∷◌, ◌++◌, length, refl, sym, ◌∙◌, arith, Some, None, rules, length_push, common_steps}
 use Rattle.ac_util.specs.Prelude.{depth, failure, is_node, looks, looks_within, MatchKind, No, Node, reached, step, Yes}
 use Rattle.ac_util.specs.declared.search.Anchored.{Anchored}
 use Rattle.ac_util.proofs.Reached.{stops, reached-nil, reached-cons, step-cons, step-all, step-reached}

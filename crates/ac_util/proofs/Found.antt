@@ -1,9 +1,6 @@
 -- The matches of the node reached are those of all that was read, and those of a node are its own and its
 -- failure target's.
-use Rattle.std.proofs.Common.{◌≡◌, ℕ, Bool, true, false, cond, List, [], ◌∷◌, ◌++◌, refl, ap, sym, ◌∙◌, Some, None, ◌<◌, ◌≤◌, length, inl, inr, arith, flat_map, rules}
-use Rattle.std.proofs.lemmas.Bool.{cond-false, cond-true}
-use Rattle.std.proofs.lemmas.List.{append_cancel_left, append-nil}
-use Rattle.std.proofs.lemmas.Grind.{common_steps}
+use Rattle.ac_util.proofs.Prelude.{◌≡◌, ℕ, Bool, true, false, cond, List, [], ◌∷◌, ◌++◌, refl, ap, sym, ◌∙◌, Some, None, ◌<◌, ◌≤◌, length, inl, inr, arith, flat_map, rules, cond-false, cond-true, append_cancel_left, append-nil, common_steps}
 use Rattle.ac_util.specs.Prelude.{equal_to, failure, is_node, matches, MatchKind, No, Node, pattern_of, reached, Yes}
 use Rattle.ac_util.specs.declared.search.Anchored.{Anchored}
 use Rattle.ac_util.proofs.Participants.{IsIn-from_equal_to, equal_to-none}

@@ -1,8 +1,5 @@
 -- A stream that goes on: the walk over what was there before stays, and other matches follow.
-use Rattle.std.proofs.lemmas.Grind.{common_steps}
-use Rattle.std.proofs.Common.{◌≡◌, ℕ, zero, suc, ◌+◌, ◌-◌, ◌<◌, ◌≤◌, Bool, true, false, List, [], ◌∷◌, ◌++◌, length, length-append, get_or, refl, ap, sym, ◌∙◌, arith, Option, None, Some, All, AllPairs, filter, rules}
-use Rattle.std.proofs.lemmas.Bool.{cases_lt, cond-true, cond-false, lt-leb, leb-false}
-use Rattle.std.proofs.lemmas.List.Elements.{All-nil}
+use Rattle.ac_util.proofs.Prelude.{common_steps, ◌≡◌, ℕ, zero, suc, ◌+◌, ◌-◌, ◌<◌, ◌≤◌, Bool, true, false, List, [], ◌∷◌, ◌++◌, length, length-append, get_or, refl, ap, sym, ◌∙◌, arith, Option, None, Some, All, AllPairs, filter, rules, cases_lt, cond-true, cond-false, lt-leb, leb-false, All-nil}
 use Rattle.ac_util.specs.Prelude.{whole_input, Built, continued, from, IsAfter, MatchKind, next_match, Occurrence, pick, Search, search_in, Standard, stream_result, unless_repeated, walk, walk_after}
 use Rattle.ac_util.proofs.Beginning.{ends_by, walk-beginning}
 use Rattle.ac_util.proofs.Longer.{pick-extended}

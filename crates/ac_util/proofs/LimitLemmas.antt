@@ -1,10 +1,6 @@
 -- A list of patterns that isn't refused is within the limits, and one that is too long is found by going along
 -- the list.
-use Rattle.std.proofs.Common.{◌≡◌, ℕ, zero, suc, ◌+◌, ◌<◌, ◌≤◌, List, [], ◌∷◌, length, drop, get_or, refl, arith, Option, Some, None, All, slice_get, MatchOption, Result, Ok, Err, rules}
-use Rattle.std.proofs.lemmas.Option.{slice_get_cases}
-use Rattle.std.proofs.lemmas.Bool.{ltb-false}
-use Rattle.std.proofs.lemmas.List.Elements.{All-cons, All-nil}
-use Rattle.std.proofs.lemmas.Grind.{common_steps}
+use Rattle.ac_util.proofs.Prelude.{◌≡◌, ℕ, zero, suc, ◌+◌, ◌<◌, ◌≤◌, List, [], ◌∷◌, length, drop, get_or, refl, arith, Option, Some, None, All, slice_get, MatchOption, Result, Ok, Err, rules, slice_get_cases, ltb-false, All-cons, All-nil, common_steps}
 use Rattle.ac_util.specs.Prelude.{GREATEST, IsWithinLimits, limit_refusal, PatternTooLong, too_long_from}
 
 -- one pattern further on

@@ -1,9 +1,7 @@
 -- The list of all occurrences: it has each occurrence, nothing else, in strict order.
-use Rattle.std.proofs.Common.{◌≡◌, ℕ, ◌+◌, ◌-◌, ◌<◌, ◌≤◌, true, List, length, arith, Contains, AllPairs, rules}
-use Rattle.std.specs.List.{range_with_len}
-use Rattle.std.proofs.lemmas.Bool.{and_parts}
-use Rattle.std.proofs.lemmas.Slice.Eq.{bytes_eq-Decides}
+use Rattle.ac_util.proofs.Prelude.{◌≡◌, ℕ, ◌+◌, ◌-◌, ◌<◌, ◌≤◌, true, List, length, arith, Contains, AllPairs, rules, range_with_len, and_parts}
 use Rattle.ac_util.specs.Prelude.{all, IsBefore, Occurrence, occurrence, Occurs, occurs, places, places_at, places_ending_at, Search, up_to}
+use Rattle.std.proofs.lemmas.Slice.Eq.{bytes_eq-Decides}
 use Rattle.ac_util.proofs.Lists.{IsIn, IsOrdered, IsIn-map, IsIn-from_map, IsIn-flat_map, IsIn-from_flat_map, IsIn-filter, IsIn-from_filter, IsIn-range, IsOrdered-map, IsOrdered-flat_map, IsOrdered-filter, IsOrdered-range, IsOrdered-unique, Contains-from_IsIn, IsIn-from_Contains, AllPairs-from_IsOrdered}
 
 -- a place is in the list of places exactly if the span has room for it

@@ -1,14 +1,11 @@
 -- The listing of a span begins with that of each beginning of it, and ends where the dead node is reached.
-use Rattle.std.proofs.Common.{◌≡◌, ℕ, zero, suc, ◌+◌, ◌<◌, ◌≤◌, List, [], ◌∷◌, ◌++◌, length, ap, arith, Some, None, slice_get, rules}
-use Rattle.std.proofs.lemmas.Bool.{le-ltb, lt-ltb}
-use Rattle.std.proofs.lemmas.Option.{slice_get_within}
-use Rattle.std.proofs.lemmas.Grind.{common_steps}
-use Rattle.ac_util.specs.Prelude.{all, item_at, longer_by, Occurrence, place_after, plain_patterns, reached, Search, Standard, text}
+use Rattle.ac_util.proofs.Prelude.{◌≡◌, ℕ, zero, suc, ◌+◌, ◌<◌, ◌≤◌, List, [], ◌∷◌, ◌++◌, length, ap, arith, Some, None, slice_get, rules, le-ltb, lt-ltb, slice_get_within, common_steps}
+use Rattle.ac_util.specs.Prelude.{all, item_at, Occurrence, place_after, plain_patterns, reached, Search, Standard, text}
 use Rattle.ac_util.proofs.Lists.{nil-from_none}
 use Rattle.ac_util.proofs.Listing.{all-only}
 use Rattle.ac_util.proofs.ListingLonger.{all-longer}
 use Rattle.ac_util.proofs.OneLonger.{nothing_found}
-use Rattle.ac_util.proofs.Spans.{nothing-past_end}
+use Rattle.ac_util.proofs.Spans.{nothing-past_end, longer_by}
 
 -- a span that begins past its end has nothing to list
 pub all-past_end : (q : Search) → q.high < q.low → all q ≡ []

@@ -1,11 +1,8 @@
 -- A span that is one place longer: its listing goes on with the matches of the node that an automaton reaches
 -- at its end.
-use Rattle.std.proofs.Common.{◌≡◌, ℕ, zero, suc, ◌+◌, ◌<◌, ◌≤◌, List, [], ◌∷◌, ◌++◌, map, length, inl, inr, refl, ap, sym, subst, arith, Some, rules}
-use Rattle.std.proofs.lemmas.Bool.{cases_lt}
-use Rattle.std.proofs.lemmas.Grind.{common_steps}
-use Rattle.ac_util.specs.Prelude.{all, ending, equal_to, found_at_end, IsBefore, matches, No, Occurrence, Occurs, one_longer, outward, pattern_of, plain_patterns, Search, Standard, text, Yes}
+use Rattle.ac_util.proofs.Prelude.{◌≡◌, ℕ, zero, suc, ◌+◌, ◌<◌, ◌≤◌, List, [], ◌∷◌, ◌++◌, map, length, inl, inr, refl, ap, sym, subst, arith, Some, rules, cases_lt, common_steps}
+use Rattle.ac_util.specs.Prelude.{all, ending, equal_to, IsBefore, matches, No, Occurrence, Occurs, outward, pattern_of, plain_patterns, Search, Standard, text, Yes, Stands, standing_at}
 use Rattle.ac_util.specs.declared.search.Anchored.{Anchored}
-use Rattle.ac_util.specs.Commits.{Stands, standing_at}
 use Rattle.ac_util.proofs.Lists.{IsIn, IsIn-append_left, IsIn-append_right, IsIn-append_cases, IsIn-map, IsIn-from_map, IsOrdered, IsOrdered-append}
 use Rattle.ac_util.proofs.Listing.{all-has, all-only, all-ordered, all-unique}
 use Rattle.ac_util.proofs.Picks.{same_occurrence}
@@ -13,8 +10,8 @@ use Rattle.ac_util.proofs.Prefixes.{starts_with-itself}
 use Rattle.ac_util.proofs.Participants.{IsIn-equal_to, IsIn-from_equal_to, equal_to-ordered}
 use Rattle.ac_util.proofs.Found.{matches-nil, matches-cons}
 use Rattle.ac_util.proofs.Standing.{Prefixes-equal, Stands-beyond, Stands-from_behind}
-use Rattle.ac_util.proofs.Spans.{pattern_length, text_length, Stands-from_Occurs, Occurs-from_Stands}
-use Rattle.ac_util.proofs.OneLonger.{find_result-text}
+use Rattle.ac_util.proofs.Spans.{pattern_length, text_length, Stands-from_Occurs, Occurs-from_Stands, one_longer}
+use Rattle.ac_util.proofs.OneLonger.{find_result-text, found_at_end}
 
 module _ (patterns : List (List ℕ)) where
   -- pattern n stands in v from place s on and ends with it

@@ -1,7 +1,5 @@
 -- Where a leftmost automaton is alive: its node begins no later than anything that occurs in what was read.
-use Rattle.std.proofs.Common.{◌≡◌, ◌≢◌, ℕ, zero, suc, ◌+◌, ◌-◌, ◌≤◌, Bool, true, false, cond, List, [], ◌∷◌, length, take, drop, inl, inr, refl, ap, sym, ◌∙◌, arith, None, Some, ◌&&◌, find, option_map, if◌then◌else◌, rules}
-use Rattle.std.proofs.lemmas.Bool.{and_parts, false≢true}
-use Rattle.std.proofs.lemmas.Grind.{common_steps}
+use Rattle.ac_util.proofs.Prelude.{◌≡◌, ◌≢◌, ℕ, zero, suc, ◌+◌, ◌-◌, ◌≤◌, Bool, true, false, cond, List, [], ◌∷◌, length, take, drop, inl, inr, refl, ap, sym, ◌∙◌, arith, None, Some, ◌&&◌, find, option_map, if◌then◌else◌, rules, and_parts, false≢true, common_steps}
 use Rattle.ac_util.specs.Prelude.{begins_with_pattern, is_leftmost, is_node, least_start, longest_len, MatchKind, No, Occurrence, pick, plain_patterns, reached, Search, suffixes, text}
 use Rattle.ac_util.proofs.Lists.{IsIn, IsIn-from_filter, IsIn-from_range}
 use Rattle.ac_util.proofs.NodeCount.{any_passes}

@@ -1,7 +1,6 @@
 -- A haystack after which more bytes come: in a span of what was there before everything stays.
-use Rattle.std.proofs.Common.{◌≡◌, ℕ, ◌≤◌, List, ◌++◌, length, length-append, ap, subst, sym, ◌∙◌, arith, option_map}
-use Rattle.ac_util.specs.Prelude.{MatchKind, pick, plain, plain_patterns, Search, text}
-use Rattle.ac_util.specs.Commits.{IsPickIn}
+use Rattle.ac_util.proofs.Prelude.{◌≡◌, ℕ, ◌≤◌, List, ◌++◌, length, length-append, ap, subst, sym, ◌∙◌, arith, option_map}
+use Rattle.ac_util.specs.Prelude.{MatchKind, pick, plain, plain_patterns, Search, text, IsPickIn}
 use Rattle.ac_util.proofs.PiecesLemmas.{slice_range-append}
 use Rattle.ac_util.proofs.Spans.{inward, pick-from_text, pick-in_text, pick-out_again}
 

@@ -1,7 +1,5 @@
 -- Where the matches of an input lie, and how many a walk has.
-use Rattle.std.proofs.Common.{◌≡◌, ℕ, zero, suc, ◌+◌, ◌-◌, ◌≤◌, Bool, true, false, length, refl, ◌∙◌, arith, Option, Some, None, All, Contains, IfSome, rules}
-use Rattle.std.proofs.lemmas.List.Elements.{All-nil, All-cons, All-weaker, All-contains_itself}
-use Rattle.std.proofs.lemmas.Grind.{common_steps}
+use Rattle.ac_util.proofs.Prelude.{◌≡◌, ℕ, zero, suc, ◌+◌, ◌-◌, ◌≤◌, Bool, true, false, length, refl, ◌∙◌, arith, Option, Some, None, All, Contains, IfSome, rules, All-nil, All-cons, All-weaker, All-contains_itself, common_steps}
 use Rattle.ac_util.specs.Prelude.{all, InputView, Built, continued, find_result, from, LiesIn, MatchKind, next_match, Occurrence, Occurs, order_of, pick, repeats, Search, search_in, unless_repeated, walk_after, walk_result}
 use Rattle.ac_util.proofs.Listing.{Occurs-from_all}
 use Rattle.ac_util.proofs.Walks.{pick-Occurs, next-in_span}

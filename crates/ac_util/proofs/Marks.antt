@@ -1,14 +1,6 @@
 -- Which bytes are marked as those with which patterns begin, and the bytes that are marked.
-use Rattle.std.proofs.Common.{◌≡◌, ℕ, zero, suc, ◌+◌, ◌-◌, ◌<◌, ◌≤◌, Bool, true, false, cond, ◌||◌, ◌⊎◌, List, [], ◌∷◌, ◌++◌, length, length-take, get_or, set, take, Some, None, inl, inr, refl, ap, sym, ◌∙◌, arith, ◌==◌, ◌&&◌, not, filter, slice_get, rules}
-use Rattle.std.specs.List.{list_any, range_with_len}
-use Rattle.std.proofs.lemmas.Bool.{eq-eqb, false≢true, or_left, or_right, true≢false}
-use Rattle.std.proofs.lemmas.Bool.Decides.{nat_tests}
-use Rattle.std.proofs.lemmas.Grind.{common_steps}
-use Rattle.std.proofs.lemmas.List.{append-nil}
-use Rattle.std.proofs.lemmas.List.Elements.{filter-append}
-use Rattle.ac_util.specs.Prelude.{begins_with, BeginWith, first_bytes, first_bytes_of, FirstBytes, FirstOf, is_empty, is_one_of, marked, MOST_BYTES, MOST_PATTERNS, One, plain_byte, same_byte, skip_among, skip_for, Three, Two}
-use Rattle.ac_util.specs.Prefilters.{is_marked}
-use Rattle.ac_util.specs.Prefilters.Skip.{Needle}
+use Rattle.ac_util.proofs.Prelude.{◌≡◌, ℕ, zero, suc, ◌+◌, ◌-◌, ◌<◌, ◌≤◌, Bool, true, false, cond, ◌||◌, ◌⊎◌, List, [], ◌∷◌, ◌++◌, length, length-take, get_or, set, take, Some, None, inl, inr, refl, ap, sym, ◌∙◌, arith, ◌==◌, ◌&&◌, not, filter, slice_get, rules, list_any, range_with_len, eq-eqb, false≢true, or_left, or_right, true≢false, nat_tests, common_steps, append-nil, filter-append}
+use Rattle.ac_util.specs.Prelude.{begins_with, BeginWith, first_bytes, first_bytes_of, FirstBytes, FirstOf, is_empty, is_one_of, marked, MOST_BYTES, MOST_PATTERNS, One, plain_byte, same_byte, skip_among, skip_for, Three, Two, is_marked, Needle}
 use Rattle.ac_util.proofs.Lists.{IsIn, IsIn-filter, IsIn-range, none-from_nil}
 use Rattle.ac_util.proofs.PlainListing.{range-more}
 

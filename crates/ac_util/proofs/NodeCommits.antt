@@ -1,11 +1,8 @@
 -- What a walk does with the string of a node once the pick in it is final, one byte more at a time.
-use Rattle.std.proofs.Common.{◌≡◌, ℕ, ◌+◌, ◌-◌, ◌<◌, ◌≤◌, ◌==◌, Bool, true, false, List, [], ◌∷◌, ◌++◌, length, length-drop, drop, refl, ap, sym, ◌∙◌, subst, arith, None, Some}
-use Rattle.std.proofs.Math.Seq.{drop-length}
-use Rattle.std.proofs.lemmas.List.{drop-append-le}
-use Rattle.ac_util.specs.Prelude.{credit, is_leftmost, last_end, looks, looks_by, matches, MatchKind, No, Occurrence, pattern_of, step}
-use Rattle.ac_util.specs.Commits.{standing_at, IsPickIn, Commits, Anything, Next, NodeCommits}
+use Rattle.ac_util.proofs.Prelude.{◌≡◌, ℕ, ◌+◌, ◌-◌, ◌<◌, ◌≤◌, ◌==◌, Bool, true, false, List, [], ◌∷◌, ◌++◌, length, length-drop, drop, refl, ap, sym, ◌∙◌, subst, arith, None, Some, drop-length, drop-append-le}
+use Rattle.ac_util.specs.Prelude.{credit, is_leftmost, last_end, looks, looks_by, matches, MatchKind, No, Occurrence, pattern_of, step, standing_at, IsPickIn, Commits, Anything, NodeCommits}
 use Rattle.ac_util.proofs.Advance.{pick-stays}
-use Rattle.ac_util.proofs.Commits.{commits-nil, commits-on, commits-pick, final-dead, given-on}
+use Rattle.ac_util.proofs.Commits.{commits-nil, commits-on, commits-pick, final-dead, given-on, Next}
 use Rattle.ac_util.proofs.DeadSteps.{dead-paid}
 use Rattle.ac_util.proofs.NodePicks.{EndsWithPick, match-picked, pick-before}
 use Rattle.ac_util.proofs.NodeRests.{reached-rest}

@@ -1,9 +1,7 @@
 -- The nodes other than the empty and the dead one are counted, each once.
-use Rattle.std.proofs.Common.{◌≡◌, ◌≢◌, ℕ, ◌<◌, Bool, true, not, List, [], ◌∷◌, length, take, inl, inr, refl, ap, sym, ◌∙◌, subst, arith, nat_eq, bytes_eq, flat_map, Contains, AllPairs, rules}
-use Rattle.std.specs.List.{range_with_len, list_any, starts_with}
-use Rattle.std.proofs.lemmas.Bool.{or_cases, false≢true}
-use Rattle.std.proofs.lemmas.Slice.Eq.{bytes_eq-Decides}
+use Rattle.ac_util.proofs.Prelude.{◌≡◌, ◌≢◌, ℕ, ◌<◌, Bool, true, not, List, [], ◌∷◌, length, take, inl, inr, refl, ap, sym, ◌∙◌, subst, arith, nat_eq, bytes_eq, flat_map, Contains, AllPairs, rules, range_with_len, list_any, starts_with, or_cases, false≢true}
 use Rattle.ac_util.specs.Prelude.{distinct, inner_nodes, is_node, MatchKind, participants, pattern_of, prefixes}
+use Rattle.std.proofs.lemmas.Slice.Eq.{bytes_eq-Decides}
 use Rattle.ac_util.proofs.Lists.{IsIn, IsIn-map, IsIn-from_map, IsIn-flat_map, IsIn-from_flat_map, IsIn-filter, IsIn-from_filter, IsIn-range, IsIn-from_range, IsOrdered, IsOrdered-filter, Contains-from_IsIn, IsIn-from_Contains, AllPairs-from_IsOrdered}
 use Rattle.ac_util.proofs.Prefixes.{starts_with-length, list_any-from_IsIn}
 

@@ -1,7 +1,6 @@
 -- What is picked in the string of a node, and what a walk gives that stands there as it reads on.
-use Rattle.std.proofs.Common.{◌≡◌, ℕ, ◌+◌, ◌-◌, ◌<◌, true, List, [], ◌∷◌, ◌++◌, length, drop, ap, sym, ◌∙◌, arith, None, Some}
-use Rattle.ac_util.specs.Prelude.{is_leftmost, matches, MatchKind, No, Node, Occurrence, pattern_of, reached, step}
-use Rattle.ac_util.specs.Commits.{standing_at, IsPickIn}
+use Rattle.ac_util.proofs.Prelude.{◌≡◌, ℕ, ◌+◌, ◌-◌, ◌<◌, true, List, [], ◌∷◌, ◌++◌, length, drop, ap, sym, ◌∙◌, arith, None, Some}
+use Rattle.ac_util.specs.Prelude.{is_leftmost, matches, MatchKind, No, Node, Occurrence, pattern_of, reached, step, standing_at, IsPickIn}
 use Rattle.ac_util.proofs.Advance.{head, pick-becomes, pick-stays}
 use Rattle.ac_util.proofs.DeadSteps.{BeginsBefore}
 use Rattle.ac_util.proofs.Found.{matches-reached}

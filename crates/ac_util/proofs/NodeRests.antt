@@ -1,9 +1,6 @@
 -- Where a node stands in what was read: it is a suffix of it, and under a leftmost kind its pick is that of what was read.
-use Rattle.std.proofs.Common.{◌≡◌, ℕ, suc, ◌+◌, ◌-◌, ◌≤◌, Bool, true, false, ◌&&◌, cond, List, [], ◌∷◌, length, drop, ap, sym, ◌∙◌, subst, arith, Option, None, Some, option_map, rules}
-use Rattle.std.proofs.lemmas.List.{drop-drop}
-use Rattle.std.proofs.lemmas.Grind.{common_steps}
-use Rattle.ac_util.specs.Prelude.{begins_with_pattern, is_leftmost, is_node, IsFirst, MatchKind, No, Occurrence, outward, reached}
-use Rattle.ac_util.specs.Commits.{Stands, standing_at, IsPickIn}
+use Rattle.ac_util.proofs.Prelude.{◌≡◌, ℕ, suc, ◌+◌, ◌-◌, ◌≤◌, Bool, true, false, ◌&&◌, cond, List, [], ◌∷◌, length, drop, ap, sym, ◌∙◌, subst, arith, Option, None, Some, option_map, rules, drop-drop, common_steps}
+use Rattle.ac_util.specs.Prelude.{begins_with_pattern, is_leftmost, is_node, IsFirst, MatchKind, No, Occurrence, outward, reached, Stands, standing_at, IsPickIn}
 use Rattle.ac_util.proofs.Living.{begins-early}
 use Rattle.ac_util.proofs.Participants.{begins-from_Prefixes}
 use Rattle.ac_util.proofs.Reached.{reached-cons, reached-nil}

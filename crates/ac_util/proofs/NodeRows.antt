@@ -1,6 +1,6 @@
 -- Nodes of automata, as the definitions compute them: tables of what is asked and what the answer is.
 use Prim.Native.String.{String}
-use Rattle.std.specs.Prelude.{◌≡◌, ℕ, List, [], ◌∷◌, None, Some, codes, map, refl, slice_index}
+use Rattle.ac_util.proofs.Prelude.{◌≡◌, ℕ, List, [], ◌∷◌, None, Some, codes, map, refl, slice_index}
 use Rattle.ac_util.specs.Prelude.{failure, LeftmostFirst, LeftmostLongest, looks, matches, MatchKind, No, Node, Standard, state_count, step, Yes}
 use Rattle.ac_util.specs.declared.search.Anchored.{Anchored}
 use Rattle.ac_util.proofs.SearchRows.{nested_words, pronouns}

@@ -1,14 +1,17 @@
 -- A span that is one place longer: its pick, by the matches of the node that an automaton reaches at its end.
-use Rattle.std.proofs.Common.{◌≡◌, ℕ, zero, suc, ◌+◌, ◌<◌, ◌≤◌, Bool, true, false, List, [], ◌∷◌, ◌++◌, length, get_or, ap, sym, ◌∙◌, subst, arith, Option, Some, None, option_map, rules}
-use Rattle.std.proofs.lemmas.Grind.{common_steps}
-use Rattle.ac_util.specs.Prelude.{ending, found_at_end, is_leftmost, IsFirst, longer_by, matches, MatchKind, Occurrence, one_longer, order_of, outward, pick, plain_byte, plain_patterns, reached, Search, Standard, step, text}
-use Rattle.ac_util.specs.Commits.{Stands, standing_at, IsPickIn}
+use Rattle.ac_util.proofs.Prelude.{◌≡◌, ℕ, zero, suc, ◌+◌, ◌<◌, ◌≤◌, Bool, true, false, List, [], ◌∷◌, ◌++◌, length, get_or, ap, sym, ◌∙◌, subst, arith, Option, Some, None, option_map, rules, common_steps}
+use Rattle.ac_util.specs.Prelude.{ending, is_leftmost, IsFirst, matches, MatchKind, Occurrence, order_of, outward, pick, plain_byte, plain_patterns, reached, Search, Standard, step, text, Stands, standing_at, IsPickIn}
 use Rattle.ac_util.proofs.Picks.{pick-from_IsPick}
 use Rattle.ac_util.proofs.Reached.{step-reached}
 use Rattle.ac_util.proofs.Found.{matches-reached}
 use Rattle.ac_util.proofs.Standing.{first-at_one_end}
 use Rattle.ac_util.proofs.Advance.{IsHead, head, pick-stays, pick-becomes, first-becomes, start-stays, start-becomes}
-use Rattle.ac_util.proofs.Spans.{inward, text_longer, pick-from_text, pick-in_text, pick-out_again, nothing-past_end}
+use Rattle.ac_util.proofs.Spans.{inward, text_longer, pick-from_text, pick-in_text, pick-out_again, nothing-past_end, longer_by, one_longer}
+
+-- the matches of the node that an automaton of this kind has reached at the end of the span
+abbrev pub found_at_end : MatchKind → Search → List ℕ
+found_at_end kind q =
+    matches kind (plain_patterns q) q.anchored (reached kind (plain_patterns q) q.anchored (text q))
 
 -- a head of the text, counted from the haystack's front, ends where the span does
 ending-head : (kind : MatchKind) (q : Search) (i k : ℕ) → q.low ≤ q.high → q.high ≤ length q.haystack

@@ -1,10 +1,8 @@
 -- A walk that reads on, past the matches that it is about to give: it gives them, and finds the next ones.
-use Rattle.std.proofs.Common.{◌≡◌, ℕ, subst, ◌+◌, ◌-◌, ◌<◌, ◌≤◌, true, List, [], ◌∷◌, ◌++◌, length, slice_range, slice_index, drop, map, refl, ap, sym, ◌∙◌, arith, Option, None, Some, append_assoc}
-use Rattle.std.proofs.lemmas.List.{append-nil, take-append-drop}
-use Rattle.ac_util.specs.Prelude.{from, is_leftmost, last_end, matches, MatchKind, No, Node, Occurrence, outward, pattern_of, pick, plain, plain_byte, reached, Search, step, text, walk}
-use Rattle.ac_util.specs.Commits.{IsPickIn, IsSearchFor, Commits, Anything, Next, Nothing, NodeCommits, end_after, StandsAfter}
+use Rattle.ac_util.proofs.Prelude.{◌≡◌, ℕ, subst, ◌+◌, ◌-◌, ◌<◌, ◌≤◌, true, List, [], ◌∷◌, ◌++◌, length, slice_range, slice_index, drop, map, refl, ap, sym, ◌∙◌, arith, Option, None, Some, append_assoc, append-nil, take-append-drop}
+use Rattle.ac_util.specs.Prelude.{from, is_leftmost, last_end, matches, MatchKind, No, Node, Occurrence, outward, pattern_of, pick, plain, plain_byte, reached, Search, step, text, walk, IsPickIn, IsSearchFor, Commits, Anything, Nothing, NodeCommits, end_after, StandsAfter}
 use Rattle.ac_util.proofs.Advance.{pick-stays}
-use Rattle.ac_util.proofs.Commits.{commits-all, commits-pick, final-dead, final-last, IsFinal, map-outward}
+use Rattle.ac_util.proofs.Commits.{commits-all, commits-pick, final-dead, final-last, IsFinal, map-outward, Next}
 use Rattle.ac_util.proofs.Found.{matches-reached}
 use Rattle.ac_util.proofs.Living.{dead-begins}
 use Rattle.ac_util.proofs.NodeRests.{pick-in_node, reached-rest}

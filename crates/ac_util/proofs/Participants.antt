@@ -1,11 +1,7 @@
 -- Which patterns take part, which strings lead to nodes, and which patterns equal a string.
-use Rattle.std.proofs.Common.{◌≡◌, ℕ, ◌<◌, ◌≤◌, Bool, true, false, not, List, [], ◌∷◌, ◌++◌, length, take, refl, ap, sym, ◌∙◌, subst, arith, nat_eq, rules}
-use Rattle.std.specs.List.{range_with_len, starts_with}
-use Rattle.std.proofs.lemmas.Bool.{false≢true, false_from_ne_true}
+use Rattle.ac_util.proofs.Prelude.{◌≡◌, ℕ, ◌<◌, ◌≤◌, Bool, true, false, not, List, [], ◌∷◌, ◌++◌, length, take, refl, ap, sym, ◌∙◌, subst, arith, nat_eq, rules, range_with_len, starts_with, false≢true, false_from_ne_true, common_steps}
+use Rattle.ac_util.specs.Prelude.{begins_with_pattern, equal_to, is_leftmost, is_node, LeftmostFirst, LeftmostLongest, MatchKind, participants, participates, pattern_of, Standard, Prefixes}
 use Rattle.std.proofs.lemmas.Slice.Eq.{bytes_eq-Decides}
-use Rattle.std.proofs.lemmas.Grind.{common_steps}
-use Rattle.ac_util.specs.Prelude.{begins_with_pattern, equal_to, is_leftmost, is_node, LeftmostFirst, LeftmostLongest, MatchKind, participants, participates, pattern_of, Standard}
-use Rattle.ac_util.specs.Commits.{Prefixes}
 use Rattle.ac_util.proofs.Lists.{IsIn, IsIn-filter, IsIn-from_filter, IsIn-range, IsIn-from_range, IsOrdered, IsOrdered-filter, IsOrdered-range, nil-from_none}
 use Rattle.ac_util.proofs.Prefixes.{starts_with-itself, starts_with-front, starts_with-more, starts_with-whole, starts_with-trans, list_any-weaker, list_any-from_IsIn, first_any}
 

@@ -1,10 +1,7 @@
 -- Walks by patterns of which none is empty, under any kind: one pick after another.
-use Rattle.std.proofs.Common.{◌≡◌, ℕ, ◌+◌, ◌-◌, ◌<◌, ◌≤◌, List, [], ◌∷◌, ◌++◌, length, length-append, slice_range, take, drop, refl, ap, sym, ◌∙◌, subst, arith, Option, None, Some, rules}
-use Rattle.std.proofs.Math.Seq.{take-append_seam}
-use Rattle.std.proofs.lemmas.List.{drop-drop, drop-map, drop-take, length-map}
+use Rattle.ac_util.proofs.Prelude.{◌≡◌, ℕ, ◌+◌, ◌-◌, ◌<◌, ◌≤◌, List, [], ◌∷◌, ◌++◌, length, length-append, slice_range, take, drop, refl, ap, sym, ◌∙◌, subst, arith, Option, None, Some, rules, take-append_seam, drop-drop, drop-map, drop-take, length-map}
+use Rattle.ac_util.specs.Prelude.{from, MatchKind, next_match, No, Occurrence, Occurs, outward, pattern_of, pick, plain, plain_byte, plain_patterns, reached, Search, text, walk, walk_after, IsPickIn, IsSearchFor}
 use Rattle.ac_util.specs.declared.search.Anchored.{Anchored}
-use Rattle.ac_util.specs.Prelude.{from, MatchKind, next_match, No, Occurrence, Occurs, outward, pattern_of, pick, plain, plain_byte, plain_patterns, reached, Search, text, walk, walk_after}
-use Rattle.ac_util.specs.Commits.{IsPickIn, IsSearchFor}
 use Rattle.ac_util.proofs.OneLonger.{pick-dead}
 use Rattle.ac_util.proofs.Spans.{part, pattern_length, pick-from_text, text_length}
 use Rattle.ac_util.proofs.Walks.{next-none, next-some, pick-Occurs, walk_after-None, walk_after-Some}

@@ -1,6 +1,5 @@
 -- The computed pick is the occurrence that comes first by the kind's order, and the only one.
-use Rattle.std.proofs.Common.{◌≡◌, Bool, true, false, cond, List, [], ◌∷◌, inl, inr, refl, sym, subst, arith, Option, Some, None, MatchOption, slice_get}
-use Rattle.std.proofs.lemmas.Grind.{common_steps}
+use Rattle.ac_util.proofs.Prelude.{◌≡◌, Bool, true, false, cond, List, [], ◌∷◌, inl, inr, refl, sym, subst, arith, Option, Some, None, MatchOption, slice_get, common_steps}
 use Rattle.ac_util.specs.Prelude.{all, beats, best, better, IsBefore, IsFirst, IsFirstByEnd, IsPick, LeftmostFirst, LeftmostLongest, MatchKind, Occurrence, occurrence, Occurs, pick, Search, Standard}
 use Rattle.ac_util.proofs.Lists.{IsIn, IsOrdered}
 use Rattle.ac_util.proofs.Listing.{all-has, all-only, all-ordered}

@@ -1,7 +1,6 @@
 -- Pieces of a list: how many there are, where each stands, and how one more is added.
-use Rattle.std.proofs.Common.{◌≡◌, ℕ, zero, suc, ◌+◌, ◌<◌, ◌≤◌, List, [], ◌∷◌, ◌++◌, length, get_or, refl, arith, Some, length-append, slice_get, slice_range, rules}
-use Rattle.std.proofs.lemmas.Grind.{common_steps}
-use Rattle.ac_util.specs.Patterns.{AreBounds, pieces}
+use Rattle.ac_util.proofs.Prelude.{◌≡◌, ℕ, zero, suc, ◌+◌, ◌<◌, ◌≤◌, List, [], ◌∷◌, ◌++◌, length, get_or, refl, arith, Some, length-append, slice_get, slice_range, rules, common_steps}
+use Rattle.ac_util.specs.Prelude.{AreBounds, pieces}
 
 -- a list that bounds has one more than there are pieces
 pub length-pieces : {X : Type 0} (items : List X) (bounds : List ℕ) (last : ℕ) → AreBounds bounds last

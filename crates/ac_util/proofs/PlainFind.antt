@@ -1,8 +1,5 @@
 -- The plain find: it tries one place after another and keeps the best match so far.
-use Rattle.std.proofs.Common.{◌≡◌, ℕ, ◌+◌, ◌<◌, ◌≤◌, Bool, true, false, cond, List, [], length, get_or, ◌⊎◌, inl, inr, refl, ap, subst, arith, Option, Some, None, MatchOption, rules}
-use Rattle.std.specs.Borrow.{Bor}
-use Rattle.std.proofs.lemmas.List.{length-map}
-use Rattle.std.proofs.lemmas.Grind.{common_steps}
+use Rattle.ac_util.proofs.Prelude.{◌≡◌, ℕ, ◌+◌, ◌<◌, ◌≤◌, Bool, true, false, cond, List, [], length, get_or, ◌⊎◌, inl, inr, refl, ap, subst, arith, Option, Some, None, MatchOption, rules, Bor, length-map, common_steps}
 use Rattle.ac_util.specs.Prelude.{beats, better, bytes_of, IsFirst, IsPick, MatchKind, Occurrence, occurrence, Occurs, pattern_of, pick, Search}
 use Rattle.ac_util.proofs.Picks.{pick-from_IsPick, same_occurrence, end_from}
 

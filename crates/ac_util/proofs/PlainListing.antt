@@ -1,9 +1,5 @@
 -- One more number, start or end tried adds what occurs there.
-use Rattle.std.proofs.Common.{◌≡◌, ℕ, zero, suc, ◌+◌, ◌-◌, Bool, true, false, cond, List, [], ◌∷◌, ◌++◌, map, refl, ap, ◌∙◌, arith, filter, flat_map, IsTrue, ◌↔◌, rules}
-use Rattle.std.specs.List.{range_with_len}
-use Rattle.std.proofs.lemmas.List.{append_assoc}
-use Rattle.std.proofs.lemmas.List.FromFn.{filter_of_map_range_with_len_more}
-use Rattle.std.proofs.lemmas.Grind.{common_steps}
+use Rattle.ac_util.proofs.Prelude.{◌≡◌, ℕ, zero, suc, ◌+◌, ◌-◌, Bool, true, false, cond, List, [], ◌∷◌, ◌++◌, map, refl, ap, ◌∙◌, arith, filter, flat_map, IsTrue, ◌↔◌, rules, range_with_len, append_assoc, filter_of_map_range_with_len_more, common_steps}
 use Rattle.ac_util.specs.Prelude.{all, Occurrence, occurrence, Occurs, occurs, places_ending_at, Search}
 use Rattle.ac_util.proofs.Listing.{occurs-true}
 

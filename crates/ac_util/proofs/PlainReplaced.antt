@@ -1,8 +1,5 @@
 -- The plain replacement: what is written at each match, and that a walk can be replaced.
-use Rattle.std.proofs.Common.{◌≡◌, ℕ, zero, suc, ◌+◌, ◌-◌, ◌<◌, ◌≤◌, Bool, true, false, List, ◌++◌, drop, length, get_or, refl, ◌∙◌, arith, Option, Some, None, All, AllPairs, slice_range}
-use Rattle.std.specs.Borrow.{Bor}
-use Rattle.std.proofs.lemmas.List.Elements.{All-cons, All-nil}
-use Rattle.std.proofs.lemmas.Grind.{common_steps}
+use Rattle.ac_util.proofs.Prelude.{◌≡◌, ℕ, zero, suc, ◌+◌, ◌-◌, ◌<◌, ◌≤◌, Bool, true, false, List, ◌++◌, drop, length, get_or, refl, ◌∙◌, arith, Option, Some, None, All, AllPairs, slice_range, Bor, All-cons, All-nil, common_steps}
 use Rattle.ac_util.specs.Prelude.{bytes_of, continued, EndsBy, from, IsReplaceable, MatchKind, next_match, Occurrence, pick, repeats, replaced, replaced_from, Search, unless_repeated, walk, walk_after}
 use Rattle.ac_util.proofs.Walks.{pick-Occurs, next-in_span, walk-ordered}
 

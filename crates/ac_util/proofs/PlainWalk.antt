@@ -1,7 +1,5 @@
 -- The plain walk: what is left of it after each match.
-use Rattle.std.proofs.Common.{◌≡◌, ℕ, ◌+◌, ◌-◌, ◌<◌, ◌≤◌, List, [], ◌∷◌, ◌++◌, arith, Option, Some, None, MatchOption, rules}
-use Rattle.std.proofs.lemmas.List.{append_assoc}
-use Rattle.std.proofs.lemmas.Grind.{common_steps}
+use Rattle.ac_util.proofs.Prelude.{◌≡◌, ℕ, ◌+◌, ◌-◌, ◌<◌, ◌≤◌, List, [], ◌∷◌, ◌++◌, arith, Option, Some, None, MatchOption, rules, append_assoc, common_steps}
 use Rattle.ac_util.specs.Prelude.{from, MatchKind, next_match, Occurrence, pick, Search, walk, walk_after}
 use Rattle.ac_util.proofs.Walks.{pick-Occurs, next-in_span, next-beyond, walk_after-None, walk_after-Some}
 

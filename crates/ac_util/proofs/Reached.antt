@@ -1,7 +1,5 @@
 -- A step leads from the node that an automaton has reached to the one that it reaches with one more byte.
-use Rattle.std.proofs.Common.{◌≡◌, ◌≢◌, ℕ, Bool, true, false, ◌&&◌, cond, List, [], ◌∷◌, ◌++◌, refl, ap, sym, ◌∙◌, Some, None, find, rules, arith}
-use Rattle.std.proofs.lemmas.Bool.{cond-false, cond-true, false≢true}
-use Rattle.std.proofs.lemmas.Grind.{common_steps}
+use Rattle.ac_util.proofs.Prelude.{◌≡◌, ◌≢◌, ℕ, Bool, true, false, ◌&&◌, cond, List, [], ◌∷◌, ◌++◌, refl, ap, sym, ◌∙◌, Some, None, find, rules, arith, cond-false, cond-true, false≢true, common_steps}
 use Rattle.ac_util.specs.Prelude.{begins_with_pattern, is_leftmost, is_node, MatchKind, No, Node, open_suffixes, reached, starting_by, step, Yes}
 use Rattle.ac_util.specs.declared.search.Anchored.{Anchored}
 use Rattle.ac_util.proofs.Participants.{begins-more, is_node-more, is_node-begins}

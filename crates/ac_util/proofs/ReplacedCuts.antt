@@ -1,14 +1,6 @@
 -- The replaced text of a stream as far as the stream is settled, and then the rest.
-use Rattle.std.proofs.Common.{◌≡◌, ◌≢◌, ℕ, suc, ◌+◌, ◌-◌, ◌<◌, ◌≤◌, false, true, List, [], ◌∷◌, ◌++◌, length, length-append, length-drop, take, drop, take-take, refl, ap, sym, subst, ◌∙◌, arith, All, slice_index_or, slice_range, rules}
-use Rattle.std.proofs.Math.Seq.{drop-append_seam, take-add, take-append_seam}
-use Rattle.std.proofs.lemmas.List.{drop-drop, drop-take, drop_all, take-append-drop, take-append-le, take_all}
-use Rattle.std.proofs.lemmas.List.Elements.{All-drop, All-head, All-same}
-use Rattle.std.proofs.lemmas.Grind.{common_steps}
-use Rattle.ac_util.specs.Prelude.{Built, exchanged_from, IsSettledAt, is_leftmost, kept_back_len, last_end, LeftmostFirst, LeftmostLongest, LiesIn, longest_len, MatchKind, Occurrence, replaced, replaced_from, Standard, stream_result, whole_input, without_last}
-use Rattle.ac_util.specs.Built.{has_empty}
-use Rattle.ac_util.specs.Replacement.{StartFrom}
-use Rattle.ac_util.specs.Stream.{IsSettledBy, settled}
-use Rattle.ac_util.specs.Replacement.{AreInOrder}
+use Rattle.ac_util.proofs.Prelude.{◌≡◌, ◌≢◌, ℕ, suc, ◌+◌, ◌-◌, ◌<◌, ◌≤◌, false, true, List, [], ◌∷◌, ◌++◌, length, length-append, length-drop, take, drop, take-take, refl, ap, sym, subst, ◌∙◌, arith, All, slice_index_or, slice_range, rules, drop-append_seam, take-add, take-append_seam, drop-drop, drop-take, drop_all, take-append-drop, take-append-le, take_all, All-drop, All-head, All-same, common_steps}
+use Rattle.ac_util.specs.Prelude.{Built, exchanged_from, IsSettledAt, is_leftmost, kept_back_len, last_end, LeftmostFirst, LeftmostLongest, LiesIn, longest_len, MatchKind, Occurrence, replaced, replaced_from, Standard, stream_result, whole_input, without_last, has_empty, StartFrom, IsSettledBy, settled, AreInOrder}
 use Rattle.ac_util.proofs.Exchanges.{exchanged-in_order}
 use Rattle.ac_util.proofs.GoesOn.{stream_result-begins}
 use Rattle.ac_util.proofs.Lying.{walk_result-lie}

@@ -1,6 +1,5 @@
 -- What the steps of a replacement leave, by what each call does.
-use Rattle.std.proofs.Common.{◌≡◌, ℕ, List, [], ◌∷◌, ◌++◌, drop, inl, inr, refl, ap, sym, subst, ◌∙◌, append_assoc, append-nil, Bool, Option, None, Some, slice_index_or, slice_range, rules, arith}
-use Rattle.std.proofs.lemmas.Grind.{common_steps}
+use Rattle.ac_util.proofs.Prelude.{◌≡◌, ℕ, List, [], ◌∷◌, ◌++◌, drop, inl, inr, refl, ap, sym, subst, ◌∙◌, append_assoc, append-nil, Bool, Option, None, Some, slice_index_or, slice_range, rules, arith, common_steps}
 use Rattle.ac_util.specs.Prelude.{AlwaysWrites, Answer, AppendsAll, AppendsBeginning, answer_of, CallsNoMore, ClosureExchanges, exchanged_from, Fails, Continues, MatchAnswer, Occurrence, OnlyAppends, replaced, ReplacementSteps, Replacing, Turn, WritesText}
 
 module _ {S R E : Type 0} (appends : List ℕ → S → Option E → S → Type 0)

@@ -1,8 +1,6 @@
 -- The sameness of bytes, strings and places of characters in other words.
-use Rattle.std.proofs.Common.{◌≡◌, ℕ, suc, ◌<◌, Bool, true, false, List, [], ◌∷◌, length, get_or, refl, ap, sym, ◌∙◌, arith, rules}
-use Rattle.std.proofs.lemmas.Bool.{eqb-true, eq-eqb}
-use Rattle.std.proofs.lemmas.List.{length-map, get_or-map, map-id}
-use Rattle.ac_util.specs.Occurrence.{plain_byte, same_byte, IsSame}
+use Rattle.ac_util.proofs.Prelude.{◌≡◌, ℕ, suc, ◌<◌, Bool, true, false, List, [], ◌∷◌, length, get_or, refl, ap, sym, ◌∙◌, arith, rules, eqb-true, eq-eqb, length-map, get_or-map, map-id}
+use Rattle.ac_util.specs.Prelude.{plain_byte, same_byte, IsSame}
 
 -- strings that are the same have one length
 pub IsSame-length : (ignores_case : Bool) (s t : List ℕ) → IsSame ignores_case s t → length s ≡ length t

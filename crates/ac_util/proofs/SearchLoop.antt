@@ -1,10 +1,10 @@
 -- A search that reads byte by byte: what it has picked so far stays the pick.
-use Rattle.std.proofs.Common.{◌≡◌, ℕ, ◌+◌, ◌<◌, ◌≤◌, true, List, [], ◌∷◌, length, ◌⊎◌, inl, inr, arith, Option, Some, None, rules}
-use Rattle.std.proofs.lemmas.Grind.{common_steps}
-use Rattle.ac_util.specs.Prelude.{credit, ending, found_at_end, is_leftmost, longer_by, looks_by, MatchKind, Node, Occurrence, one_longer, pick, plain_patterns, reached, Search, Standard, step, text}
+use Rattle.ac_util.proofs.Prelude.{◌≡◌, ℕ, ◌+◌, ◌<◌, ◌≤◌, true, List, [], ◌∷◌, length, ◌⊎◌, inl, inr, arith, Option, Some, None, rules, common_steps}
+use Rattle.ac_util.specs.Prelude.{credit, ending, is_leftmost, looks_by, MatchKind, Node, Occurrence, pick, plain_patterns, reached, Search, Standard, step, text}
 use Rattle.ac_util.specs.declared.search.Anchored.{Anchored}
 use Rattle.ac_util.proofs.Failures.{looks-paid}
-use Rattle.ac_util.proofs.OneLonger.{pick-longer_stays, pick-longer_becomes, first-longer_stays, first-longer_becomes, pick-dead, first-dead}
+use Rattle.ac_util.proofs.OneLonger.{pick-longer_stays, pick-longer_becomes, first-longer_stays, first-longer_becomes, pick-dead, first-dead, found_at_end}
+use Rattle.ac_util.proofs.Spans.{longer_by, one_longer}
 
 -- a search by this order over an automaton of this kind, which has picked r, can go on: it prefers what starts
 -- first, as the automaton does, or it stops at the first match and has none yet

@@ -1,5 +1,5 @@
 -- Searches with their answers, as the definitions compute them: tables of what is asked and what the answer is.
-use Rattle.std.specs.Prelude.{◌≡◌, ℕ, true, false, List, [], ◌∷◌, ◌++◌, Option, Some, length, map, codes, refl}
+use Rattle.ac_util.proofs.Prelude.{◌≡◌, ℕ, true, false, List, [], ◌∷◌, ◌++◌, Option, Some, length, map, codes, refl}
 use Rattle.ac_util.specs.Prelude.{all, LeftmostFirst, LeftmostLongest, MatchKind, No, Occurrence, occurrence, order_of, pick, Search, Standard, walk, walk_after, Yes}
 
 -- a search of a whole text, unanchored, where case counts

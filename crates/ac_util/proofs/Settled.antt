@@ -1,11 +1,5 @@
 -- A stream under a leftmost kind: the matches that are decided stay as more of it comes, and no other starts before them.
-use Rattle.std.proofs.Common.{◌≡◌, ℕ, ◌+◌, ◌-◌, ◌<◌, ◌≤◌, true, List, [], ◌∷◌, ◌++◌, length, get_or, take, drop, inl, inr, refl, ap, sym, ◌∙◌, subst, arith, Option, None, Some, All, nat_eq, slice_range, rules}
-use Rattle.std.specs.List.{starts_with}
-use Rattle.std.proofs.Math.Seq.{take-append_seam, take-take}
-use Rattle.std.proofs.lemmas.Bool.{cases_lt, false_from_ne_true}
-use Rattle.std.proofs.lemmas.List.{drop-append-le, get_or-map, get_or-take, length-map, length-take-le, take-append-drop, take-map}
-use Rattle.std.proofs.lemmas.List.Elements.{All-cons, All-nil}
-use Rattle.std.proofs.lemmas.Grind.{common_steps}
+use Rattle.ac_util.proofs.Prelude.{◌≡◌, ℕ, ◌+◌, ◌-◌, ◌<◌, ◌≤◌, true, List, [], ◌∷◌, ◌++◌, length, get_or, take, drop, inl, inr, refl, ap, sym, ◌∙◌, subst, arith, Option, None, Some, All, nat_eq, slice_range, rules, starts_with, take-append_seam, take-take, cases_lt, false_from_ne_true, drop-append-le, get_or-map, get_or-take, length-map, length-take-le, take-append-drop, take-map, All-cons, All-nil, common_steps}
 use Rattle.ac_util.specs.Prelude.{AreDecided, whole_input, Built, continued, from, is_leftmost, IsFirst, IsOpen, IsPick, IsSettledAt, LeftmostFirst, LeftmostLongest, MatchKind, next_match, NoneOpen, Occurrence, occurrence, Occurs, participates, pattern_of, pick, plain, plain_byte, plain_patterns, Search, search_in, Standard, stream_result, walk_after}
 use Rattle.ac_util.proofs.Lists.{IsIn-at}
 use Rattle.ac_util.proofs.Participants.{takes_part}

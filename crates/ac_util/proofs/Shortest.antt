@@ -1,8 +1,5 @@
 -- The shortest and the longest of patterns: when the shortest is empty, and which lengths all of them have.
-use Rattle.std.proofs.Common.{◌≡◌, ℕ, zero, suc, ◌<◌, ◌≤◌, true, false, List, [], ◌∷◌, length, arith, ◌↔◌, ◌==◌}
-use Rattle.std.specs.List.{list_any}
-use Rattle.std.proofs.lemmas.Bool.{false≢true, cases_lt}
-use Rattle.std.proofs.lemmas.Grind.{common_steps}
+use Rattle.ac_util.proofs.Prelude.{◌≡◌, ℕ, zero, suc, ◌<◌, ◌≤◌, true, false, List, [], ◌∷◌, length, arith, ◌↔◌, ◌==◌, list_any, false≢true, cases_lt, common_steps}
 use Rattle.ac_util.specs.Prelude.{longest_len, pattern_of, shortest_len}
 
 -- the shortest is empty exactly if some pattern is

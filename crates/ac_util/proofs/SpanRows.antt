@@ -1,6 +1,6 @@
 -- Searches with their answers, as the definitions compute them: anchored ones, those in spans and without case, and more of
 -- patterns inside each other.
-use Rattle.std.specs.Prelude.{◌≡◌, [], ◌∷◌, ◌++◌, None, Some, codes, true, refl}
+use Rattle.ac_util.proofs.Prelude.{◌≡◌, [], ◌∷◌, ◌++◌, None, Some, codes, true, refl}
 use Rattle.ac_util.specs.Prelude.{all, LeftmostFirst, LeftmostLongest, occurrence, order_of, pick, Standard, walk, walk_after}
 use Rattle.ac_util.proofs.SearchRows.{apple_text, AreFinds, AreListings, AreWalks, at_start, caseless, each, each_earliest, in_text, listed, nested_words, pronouns, row, within}
 

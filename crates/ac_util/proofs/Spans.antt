@@ -1,13 +1,18 @@
 -- What occurs in the span of a search is what stands in the span's text: bytes outside the span never count.
-use Rattle.std.proofs.Common.{◌≡◌, ℕ, zero, suc, ◌+◌, ◌-◌, ◌<◌, ◌≤◌, List, [], ◌∷◌, ◌++◌, length, take, drop, get_or, refl, ap, sym, ◌∙◌, subst, arith, Option, Some, None, length-drop, slice_range, option_map, rules}
-use Rattle.std.proofs.lemmas.List.{length-map, take-map, take-take, drop-drop, take_more, map-append, get_or-drop, drop-map}
+use Rattle.ac_util.proofs.Prelude.{◌≡◌, ℕ, zero, suc, ◌+◌, ◌-◌, ◌<◌, ◌≤◌, List, [], ◌∷◌, ◌++◌, length, take, drop, get_or, refl, ap, sym, ◌∙◌, subst, arith, Option, Some, None, length-drop, slice_range, option_map, rules, length-map, take-map, take-take, drop-drop, take_more, map-append, get_or-drop, drop-map, common_steps}
+use Rattle.ac_util.specs.Prelude.{cut, IsFirst, IsPick, LeftmostFirst, LeftmostLongest, MatchKind, Occurrence, occurrence, Occurs, outward, pattern_of, pick, plain, plain_byte, plain_patterns, Search, Standard, text, Stands, standing_at, IsPickIn}
 use Rattle.std.proofs.Math.ListN.{get_or-map}
 use Rattle.std.proofs.lemmas.Slice.Eq.{bytes_eq-Decides}
-use Rattle.std.proofs.lemmas.Grind.{common_steps}
-use Rattle.ac_util.specs.Prelude.{cut, IsFirst, IsPick, LeftmostFirst, LeftmostLongest, MatchKind, Occurrence, occurrence, Occurs, one_longer, outward, pattern_of, pick, plain, plain_byte, plain_patterns, Search, Standard, text}
-use Rattle.ac_util.specs.Commits.{Stands, standing_at, IsPickIn}
 use Rattle.ac_util.proofs.Picks.{pick-IsPick, pick-from_IsPick, same_occurrence}
 use Rattle.ac_util.proofs.Standing.{Stands-end}
+
+-- the same search in a span that ends one byte later
+abbrev pub one_longer : Search → Search
+one_longer q = record q { high = q.high + 1 }
+
+-- the same search in a span that ends n bytes later
+abbrev pub longer_by : Search → ℕ → Search
+longer_by q n = record q { high = q.high + n }
 
 -- a part of the first m elements is a part of the list
 pub take_drop_take : {X : Type 0} (n k m : ℕ) (xs : List X) → k + n ≤ m

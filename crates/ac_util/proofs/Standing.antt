@@ -1,10 +1,7 @@
 -- Where patterns stand in a text, and how one more byte changes that.
-use Rattle.std.proofs.Common.{◌≡◌, ℕ, suc, ◌+◌, ◌<◌, ◌≤◌, true, List, [], ◌∷◌, ◌++◌, length, ◌⊎◌, inl, inr, refl, arith, rules}
-use Rattle.std.proofs.lemmas.Bool.{cases_Bool}
-use Rattle.std.proofs.lemmas.Grind.{common_steps}
-use Rattle.ac_util.specs.Prelude.{is_leftmost, IsFirst, LeftmostFirst, LeftmostLongest, MatchKind, No, Occurrence, pattern_of, Standard}
+use Rattle.ac_util.proofs.Prelude.{◌≡◌, ℕ, suc, ◌+◌, ◌<◌, ◌≤◌, true, List, [], ◌∷◌, ◌++◌, length, ◌⊎◌, inl, inr, refl, arith, rules, cases_Bool, common_steps}
+use Rattle.ac_util.specs.Prelude.{is_leftmost, IsFirst, LeftmostFirst, LeftmostLongest, MatchKind, No, Occurrence, pattern_of, Standard, Prefixes, Stands, standing_at}
 use Rattle.ac_util.specs.declared.search.Anchored.{Anchored}
-use Rattle.ac_util.specs.Commits.{Prefixes, Stands, standing_at}
 use Rattle.ac_util.proofs.Prefixes.{starts_with-whole, starts_with-length, starts_with-equal}
 
 -- how the order of preference goes with places

@@ -1,19 +1,10 @@
 -- What the replacement of a stream writes, by the stream alone: all of it, or after a failure a beginning.
-use Rattle.std.proofs.Common.{◌≡◌, ◌∙◌, ℕ, false, true, List, [], ◌∷◌, ◌++◌, append_assoc, append-nil, length, map, take, drop, inl, inr, refl, ap, sym, subst, arith, All, Bool, Option, None, Some, Result, Ok, Err, slice_index_or, slice_range}
-use Rattle.std.proofs.lemmas.Grind.{common_steps}
-use Rattle.std.proofs.lemmas.List.{get_or-map, take-append-drop, take_all}
-use Rattle.std.proofs.lemmas.List.Elements.{All-head, All-tail}
+use Rattle.ac_util.proofs.Prelude.{◌≡◌, ◌∙◌, ℕ, false, true, List, [], ◌∷◌, ◌++◌, append_assoc, append-nil, length, map, take, drop, inl, inr, refl, ap, sym, subst, arith, All, Bool, Option, None, Some, Result, Ok, Err, slice_index_or, slice_range, common_steps, get_or-map, take-append-drop, take_all, All-head, All-tail, Bor, MutBor}
+use Rattle.ac_util.specs.Prelude.{Io, Match, Memory, TooLong, WriteZero, WriteError, Built, Calls, exchanged_from, FailsToRead, LiesIn, Occurrence, Reading, ReplacementSteps, Replacing, StreamError, Turn, stream_result, whole_input, has_empty, stream_refusal, Writing, WritesAll, WritesBeginning, WritesUntilFailure, AlwaysWritesOut, answer_of_result, by_length, exchanged_to, ExchangesAll, ExchangesBeginning, FailsToReplace, FailsToReplaceWith, IsSettled, IsSettledBy, ReplacesStream, ReplacesStreamWith, stream_exchanged, text_of, WritesPiece}
 use Rattle.std.proofs.KnownBytes.{Appends-nil, Appends-trans, Consumes-nil}
-use Rattle.std.specs.Borrow.{Bor, MutBor}
 use Rattle.std.specs.Fn.{Mut}
 use Rattle.std.specs.Io.KnownBytes.{Consumes}
 use Rattle.std.specs.declared.io.Error.{Error}
-use Rattle.ac_util.specs.declared.error.StreamError.TheVariants.{Io, Match, Memory, TooLong, WriteZero}
-use Rattle.ac_util.specs.declared.device.WriteError.{WriteError}
-use Rattle.ac_util.specs.Prelude.{Built, Calls, exchanged_from, FailsToRead, LiesIn, Occurrence, Reading, ReplacementSteps, Replacing, StreamError, Turn, stream_result, whole_input}
-use Rattle.ac_util.specs.Built.{has_empty, stream_refusal}
-use Rattle.ac_util.specs.Device.{Writing, WritesAll, WritesBeginning, WritesUntilFailure}
-use Rattle.ac_util.specs.Stream.{AlwaysWritesOut, answer_of_result, by_length, exchanged_to, ExchangesAll, ExchangesBeginning, FailsToReplace, FailsToReplaceWith, IsSettled, IsSettledBy, ReplacesStream, ReplacesStreamWith, stream_exchanged, text_of, WritesPiece}
 use Rattle.ac_util.proofs.Devices.{writes-join}
 use Rattle.ac_util.proofs.Lying.{walk_result-lie}
 use Rattle.ac_util.proofs.ReplacedCuts.{settled-begins}

@@ -1,9 +1,6 @@
 -- The stride is the least power of two that is not below the number of classes.
-use Rattle.std.proofs.Common.{◌≡◌, ℕ, zero, suc, ◌+◌, ◌<◌, ◌≤◌, ◌^◌, Bool, true, false, cond, List, inl, inr, refl, ap, Option, Some, arith, nat_le, find, unwrap_or, rules}
-use Rattle.std.specs.List.{range_with_len}
-use Rattle.std.proofs.lemmas.Bool.{cases_lt, leb-true, leb-false}
-use Rattle.std.proofs.lemmas.Grind.{common_steps}
-use Rattle.ac_util.specs.Classes.{alphabet_len, stride2, stride, AreClasses}
+use Rattle.ac_util.proofs.Prelude.{◌≡◌, ℕ, zero, suc, ◌+◌, ◌<◌, ◌≤◌, ◌^◌, Bool, true, false, cond, List, inl, inr, refl, ap, Option, Some, arith, nat_le, find, unwrap_or, rules, range_with_len, cases_lt, leb-true, leb-false, common_steps}
+use Rattle.ac_util.specs.Prelude.{alphabet_len, stride2, stride, AreClasses}
 use Rattle.ac_util.proofs.ClassLists.{alphabet_len-few}
 
 -- k is the first number from `low` on that passes, or `high` where none below `high` does

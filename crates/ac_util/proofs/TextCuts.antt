@@ -1,14 +1,10 @@
 -- A text that occurs in a text cuts no character of it, with case or without.
-use Rattle.std.proofs.Common.{◌≡◌, ◌≢◌, ℕ, suc, ◌+◌, ◌<◌, ◌≤◌, Bool, true, false, List, [], ◌∷◌, ◌++◌, length, get_or, take, drop, inl, inr, refl, sym, ap, ap₂, ◌∙◌, subst, arith, append_assoc, append-nil, All, IfSome, rules}
+use Rattle.ac_util.proofs.Prelude.{◌≡◌, ◌≢◌, ℕ, suc, ◌+◌, ◌<◌, ◌≤◌, Bool, true, false, List, [], ◌∷◌, ◌++◌, length, get_or, take, drop, inl, inr, refl, sym, ap, ap₂, ◌∙◌, subst, arith, append_assoc, append-nil, All, IfSome, rules, and_parts, cases_lt, All-weaker, drop-map, length-map, map-append, nil_from_length, take-map, common_steps}
+use Rattle.ac_util.specs.Prelude.{all, AreTexts, InputView, Built, find_result, IsBetweenCharacters, LiesIn, Occurrence, pattern_of, plain, plain_byte, search_in, walk_result}
 use Rattle.std.specs.Str.{IsCharBoundary, IsUtf8}
-use Rattle.std.proofs.lemmas.Bool.{and_parts, cases_lt}
-use Rattle.std.proofs.lemmas.List.Elements.{All-weaker}
-use Rattle.std.proofs.lemmas.List.{drop-map, length-map, map-append, nil_from_length, take-map}
 use Rattle.std.proofs.lemmas.Str.{IsCharBoundary-at_seam, IsCharBoundary-from_rest, IsCharBoundary-start, IsUtf8-append, IsUtf8-drop, IsUtf8-encode, IsUtf8-nil, IsUtf8-past_char, encode_ascii, inside_one}
 use Rattle.std.proofs.lemmas.Str.Ascii.{lowercase_ascii, lowercase_is}
 use Rattle.std.proofs.Math.Utf8.{scalar, scalars, encode, encodes, low_scalar}
-use Rattle.std.proofs.lemmas.Grind.{common_steps}
-use Rattle.ac_util.specs.Prelude.{all, AreTexts, InputView, Built, find_result, IsBetweenCharacters, LiesIn, Occurrence, pattern_of, plain, plain_byte, search_in, walk_result}
 use Rattle.ac_util.proofs.Lying.{find_result-IfSome, listed-lie, walk_result-lie}
 
 -- a byte of no ASCII letter keeps its class, and so does the small form of one

@@ -1,7 +1,7 @@
 -- Values of the other definitions that users see, as they compute: replaced texts, streams, refusals, places,
 -- sameness.
 use Prim.Native.String.{String}
-use Rattle.std.specs.Prelude.{◌≡◌, ℕ, Bool, true, false, List, [], ◌∷◌, ◌++◌, Option, None, Some, map, take, codes, refl}
+use Rattle.ac_util.proofs.Prelude.{◌≡◌, ℕ, Bool, true, false, List, [], ◌∷◌, ◌++◌, Option, None, Some, map, take, codes, refl}
 use Rattle.ac_util.specs.Prelude.{all, Both, Built, Call, Find, kept_back_len, InvalidInputAnchored, InvalidInputUnanchored, item_at, LeftmostFirst, LeftmostLongest, longest_len, MatchError, MatchKind, No, Occurrence, occurrence, OverlappingByState, OverlappingIterator, pick, place_after, refusal, Replace, replaced, same_byte, same_string, Search, Standard, StartKind, Stream, stream_result, Unanchored, UnsupportedEmpty, UnsupportedOverlapping, walk, walk_after, whole_characters, without_last, Yes}
 use Rattle.ac_util.specs.declared.search.StartKind.TheVariants.{Anchored as AnchoredAlone}
 use Rattle.ac_util.proofs.SearchRows.{in_text, at_start, append_words, append_text}

@@ -22,13 +22,9 @@ pub record IsLawful (class : ℕ → ℕ) (kind : MatchKind) (ignores_case : Boo
       → step kind (map (plain ignores_case) patterns) anchored u (plain_byte ignores_case a)
       ≡ step kind (map (plain ignores_case) patterns) anchored u (plain_byte ignores_case b)
 
--- whether the byte stands in a pattern, in either case where case is ignored
-abbrev pub is_in : Bool → List ℕ → ℕ → Bool
-is_in ignores_case pattern b = list_any (same_byte ignores_case b) pattern
-
 -- whether it stands in some pattern
 abbrev pub is_in_patterns : Bool → List (List ℕ) → ℕ → Bool
-is_in_patterns ignores_case patterns b = list_any (λ p. is_in ignores_case p b) patterns
+is_in_patterns ignores_case patterns b = list_any (λ p. list_any (same_byte ignores_case b) p) patterns
 
 -- the class of a byte: it rises at each byte that stands in a pattern, and at the byte after it
 unfoldable pub class_of : Bool → List (List ℕ) → ℕ → ℕ

@@ -54,12 +54,9 @@ pub record Commits (kind : MatchKind) (patterns : List (List ℕ)) (w : List ℕ
   pub within : last_end ms ≤ length w
   pub stands : reached kind patterns No (drop (last_end ms) w) ≡ Some v
 
--- what may follow: anything, something that begins with a byte, or nothing
+-- what may follow: anything, or nothing
 abbrev pub Anything : List ℕ → Type 0
 Anything y = ⊤
-
-abbrev pub Next : ℕ → List ℕ → Type 0
-Next b y = (rest : List ℕ) × (y ≡ b ∷ rest)
 
 abbrev pub Nothing : List ℕ → Type 0
 Nothing y = y ≡ []

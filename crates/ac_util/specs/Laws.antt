@@ -62,17 +62,12 @@ module _ (kind : MatchKind) (q : Search) (last : Option ℕ) where
       → walk_after kind q last ≡ m ∷ walk_after kind (from q m.end) (Some m.end)
 
 module _ (built : Built) (bytes more : List ℕ) where
-  -- so many of the matches stay, and no other match starts before an offset
-  abbrev pub FirstMatchesStay : ℕ → ℕ → Type 0
-  FirstMatchesStay given place =
-      (take given (stream_result built (bytes ++ more)) ≡ take given (stream_result built bytes))
-      × All (λ m. place ≤ m.start) (drop given (stream_result built (bytes ++ more)))
-
   -- so it is where a stream is settled under a leftmost kind, and no pattern is empty
   abbrev pub SettledStays : Type 0
   SettledStays =
       (given place : ℕ) → is_leftmost built.kind ≡ true → has_empty built ≡ false → IsSettledAt built bytes given place
-      → FirstMatchesStay given place
+      → (take given (stream_result built (bytes ++ more)) ≡ take given (stream_result built bytes))
+      × All (λ m. place ≤ m.start) (drop given (stream_result built (bytes ++ more)))
 
 module _ (built : Built) (bytes : List ℕ) where
   -- where that is so of a match within the bytes under a leftmost kind, no offset from there up to its start is open

@@ -108,11 +108,6 @@ matches kind patterns anchored None = []
 matches kind patterns No (Some u) = flat_map (equal_to kind patterns) (open_suffixes kind patterns u)
 matches kind patterns Yes (Some u) = equal_to kind patterns u
 
--- the patterns that take part, start at an offset of the string and end with it
-abbrev pub matches_at : MatchKind → List (List ℕ) → List ℕ → Option ℕ → List ℕ
-matches_at kind patterns u None = []
-matches_at kind patterns u (Some place) = equal_to kind patterns (drop place u)
-
 -- the nodes from this one, of at most n bytes, along the failure targets up to the first with an own transition
 -- by b, that one counted. The start and the dead node have one by every byte. A failure target is shorter than
 -- its node, so n is never too small
@@ -148,19 +143,6 @@ plain_patterns q = map (plain q.ignores_case) q.patterns
 -- the bytes of the span as a plain string
 abbrev pub text : Search → List ℕ
 text q = plain q.ignores_case (slice_range q.haystack q.low q.high)
-
--- the same search in a span that ends one byte later
-abbrev pub one_longer : Search → Search
-one_longer q = record q { high = q.high + 1 }
-
--- the same search in a span that ends n bytes later
-abbrev pub longer_by : Search → ℕ → Search
-longer_by q n = record q { high = q.high + n }
-
--- the matches of the node that an automaton of this kind has reached at the end of the span
-abbrev pub found_at_end : MatchKind → Search → List ℕ
-found_at_end kind q =
-    matches kind (plain_patterns q) q.anchored (reached kind (plain_patterns q) q.anchored (text q))
 
 -- where a pattern stands that ends where the span does
 abbrev pub ending : Search → ℕ → Occurrence

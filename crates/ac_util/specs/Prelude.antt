@@ -1,31 +1,36 @@
 -- The names of this crate that most proofs cite, passed on from one place. Declares nothing.
+pub use Rattle.ac_util.specs.Built.{AreTexts, Built, Call, Find, IsBetweenCharacters, LiesIn, OverlappingByState, OverlappingIterator, Replace, Stream, exchanged, find_result, has_empty, refusal, search_in, stream_refusal, walk_result}
+pub use Rattle.ac_util.specs.Classes.{AreClasses, IsLawful, SetsApart, alphabet_len, class_at, is_in_patterns, stride}
+unfoldable pub use Rattle.ac_util.specs.Classes.{class_of, classes_of, singletons, stride2}
+pub use Rattle.ac_util.specs.Commits.{Anything, Commits, IsPickIn, IsSearchFor, NodeCommits, Nothing, Prefixes, Stands, StandsAfter, end_after, standing_at}
+pub use Rattle.ac_util.specs.Device.{Reading, ReadsAll, ReadsSome, Took, WritesAll, WritesBeginning, WritesUntilFailure, Writing, idle}
 pub use Rattle.ac_util.specs.Input.{InputView, whole_input}
-pub use Rattle.ac_util.specs.Patterns.{bytes_of, IsWithinLimits, limit_refusal, too_long_from, distinct, inner_nodes, longest_len, prefixes, shortest_len, state_count}
-pub use Rattle.ac_util.specs.Built.{Built, exchanged, find_result, search_in, walk_result, LiesIn, Call, Find, OverlappingByState, OverlappingIterator, refusal, Replace, Stream, AreTexts, IsBetweenCharacters}
-pub use Rattle.ac_util.specs.Classes.{alphabet_len, AreClasses, class_at, IsLawful, SetsApart, is_in_patterns}
-unfoldable pub use Rattle.ac_util.specs.Classes.{class_of, classes_of, singletons}
-pub use Rattle.ac_util.specs.Device.{idle, Reading, ReadsAll, ReadsSome, Took}
 pub use Rattle.ac_util.specs.Listing.{IsBefore, item_at, place_after, places, places_at, places_ending_at, up_to}
 unfoldable pub use Rattle.ac_util.specs.Listing.{all}
-pub use Rattle.ac_util.specs.Node.{credit, looks, looks_by, looks_within, equal_to, matches, matches_at, begins_with_pattern, depth, failure, is_empty, is_leftmost, is_node, last_start, least_start, Node, open_suffixes, participants, participates, reached, starting_by, step, suffixes, cut, ending, found_at_end, longer_by, one_longer, outward, plain_patterns, text}
-pub use Rattle.ac_util.specs.Occurrence.{Occurrence, occurrence, plain, plain_byte, same_byte, same_string, from, may_start, Occurs, occurs, pattern_of, Search}
-pub use Rattle.ac_util.specs.Pick.{beats, best, better, IsFirst, IsFirstByEnd, IsPick, order_of}
+pub use Rattle.ac_util.specs.Node.{Node, begins_with_pattern, credit, cut, depth, ending, equal_to, failure, is_empty, is_leftmost, is_node, last_start, least_start, looks, looks_by, looks_within, matches, open_suffixes, outward, participants, participates, plain_patterns, reached, starting_by, step, suffixes, text}
+pub use Rattle.ac_util.specs.Occurrence.{IsSame, Occurrence, Occurs, Search, from, may_start, occurrence, occurs, pattern_of, plain, plain_byte, same_byte, same_string}
+pub use Rattle.ac_util.specs.Patterns.{AreBounds, IsWithinLimits, bytes_of, distinct, inner_nodes, limit_refusal, longest_len, pieces, prefixes, shortest_len, state_count, too_long_from}
+pub use Rattle.ac_util.specs.Pick.{IsFirst, IsFirstByEnd, IsPick, beats, best, better, order_of}
 unfoldable pub use Rattle.ac_util.specs.Pick.{pick}
 pub use Rattle.ac_util.specs.Plain.{EndsBy, IsReplaceable}
-pub use Rattle.ac_util.specs.Prefilters.{begins_with, BeginWith, first_bytes_of, is_one_of, IsFirstAmong, IsNeedleMatch, IsSkipFor, marked, match_candidate, MOST_BYTES, MOST_PATTERNS, Promises, search_over, Skip, skip_among, skip_by_bytes, skip_for, start_candidate, IsCandidateFor}
+pub use Rattle.ac_util.specs.Prefilters.{BeginWith, IsCandidateFor, IsFirstAmong, IsNeedleMatch, IsSkipFor, MOST_BYTES, MOST_PATTERNS, Promises, Skip, begins_with, first_bytes_of, is_marked, is_one_of, marked, match_candidate, search_over, skip_among, skip_by_bytes, skip_for, start_candidate}
 unfoldable pub use Rattle.ac_util.specs.Prefilters.{first_bytes}
-pub use Rattle.ac_util.specs.Prefilters.Skip.{FirstOf}
-pub use Rattle.ac_util.specs.Replacement.{exchanged_from, is_char_boundary, is_whole, replaced, replaced_from, whole_characters, AlwaysWrites, Answer, AppendsAll, AppendsBeginning, answer_of, Calls, CallsNoMore, ClosureExchanges, Fails, Continues, MatchAnswer, OnlyAppends, ReplacementSteps, Replacing, Turn, WritesText}
-pub use Rattle.ac_util.specs.Stream.{AreDecided, IsOpen, IsSettledAt, NoneOpen, kept_back_len, last_end, stream_result, without_last, FailsToRead}
-pub use Rattle.ac_util.specs.Walk.{continued, IsAfter, next_match, repeats, unless_repeated, walk}
+pub use Rattle.ac_util.specs.Prefilters.Skip.{FirstOf, Needle}
+pub use Rattle.ac_util.specs.Replacement.{AlwaysWrites, Answer, AppendsAll, AppendsBeginning, AreInOrder, Calls, CallsNoMore, ClosureExchanges, Continues, Fails, MatchAnswer, OnlyAppends, ReplacementSteps, Replacing, StartFrom, Turn, WritesText, answer_of, exchanged_from, is_char_boundary, is_whole, replaced, replaced_from, whole_characters}
+pub use Rattle.ac_util.specs.Stream.{AlwaysWritesOut, AreDecided, ExchangesAll, ExchangesBeginning, FailsToRead, FailsToReplace, FailsToReplaceWith, IsOpen, IsSettled, IsSettledAt, IsSettledBy, NoneOpen, ReplacesStream, ReplacesStreamWith, WritesPiece, answer_of_result, by_length, exchanged_to, kept_back_len, last_end, settled, stream_exchanged, stream_result, text_of, without_last}
+pub use Rattle.ac_util.specs.Walk.{IsAfter, continued, next_match, repeats, unless_repeated, walk}
 unfoldable pub use Rattle.ac_util.specs.Walk.{walk_after}
+pub use Rattle.ac_util.specs.contracts.history.History.{the_row, the_type}
+pub use Rattle.ac_util.specs.declared.device.WriteError.{WriteError}
 pub use Rattle.ac_util.specs.declared.error.BuildError.TheVariants.{PatternIdOverflow, PatternTooLong}
 pub use Rattle.ac_util.specs.declared.error.MatchError.{MatchError}
 pub use Rattle.ac_util.specs.declared.error.MatchError.TheVariants.{InvalidInputAnchored, InvalidInputUnanchored, UnsupportedEmpty, UnsupportedOverlapping}
 pub use Rattle.ac_util.specs.declared.error.ReplaceError.{ReplaceError}
 pub use Rattle.ac_util.specs.declared.error.StreamError.{StreamError}
-pub use Rattle.ac_util.specs.declared.error.StreamError.TheVariants.{TooLong}
+pub use Rattle.ac_util.specs.declared.error.StreamError.TheVariants.{Io, Match, Memory, TooLong, WriteZero}
+pub use Rattle.ac_util.specs.declared.history.History.{History}
 pub use Rattle.ac_util.specs.declared.prefilter.Candidate.{Candidate}
+pub use Rattle.ac_util.specs.declared.prefilter.Candidate.TheVariants.{None}
 pub use Rattle.ac_util.specs.declared.prefilter.FirstBytes.{FirstBytes}
 pub use Rattle.ac_util.specs.declared.prefilter.FirstBytes.TheVariants.{One, Three, Two}
 pub use Rattle.ac_util.specs.declared.primitives.TheConstants.{GREATEST}

@@ -1,7 +1,9 @@
 //! Classes of bytes that an automaton need not distinguish, which make its rows of transitions short.
 ghost use Rattle.std.specs.Prelude.{◌≡◌, ℕ, ◌<◌, ◌≤◌, ◌||◌};
-ghost use Rattle.ac_util.specs.Classes.{alphabet_len, class_at, classes_of, singletons, is_in_patterns, stride, stride2, is_in};
+ghost use Rattle.ac_util.specs.Classes.{alphabet_len, class_at, classes_of, singletons, is_in_patterns, stride, stride2};
 ghost use Rattle.ac_util.specs.Prefilters.{AreMarksOf, is_marked};
+ghost use Rattle.std.specs.List.{list_any};
+ghost use Rattle.ac_util.specs.Occurrence.{same_byte};
 
 use crate::patterns::{Patterns, plain_byte};
 use std::alloc::Allocator;
@@ -118,7 +120,7 @@ fn marks_of<A: Allocator>(patterns: &Patterns<A>, ignores_case: bool) -> [bool; 
 /// Marks the plain bytes of one pattern too.
 fn mark(marks: &mut [bool; 256], pattern: &[u8], ignores_case: bool)
     ensures { AreMarksOf ignores_case marks.new
-        (λ b. is_marked ignores_case marks.old b || is_in ignores_case pattern.now b) }
+        (λ b. is_marked ignores_case marks.old b || list_any (same_byte ignores_case b) pattern.now) }
 {
     for &byte in pattern {
         marks[plain_byte(ignores_case, byte) as usize] = true;

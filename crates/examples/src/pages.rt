@@ -9,4 +9,5 @@ mod overlaps;
 mod readme;
 mod replacements;
 mod streams;
+mod threads;
 mod values;

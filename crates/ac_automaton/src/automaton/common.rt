@@ -10,13 +10,13 @@ use ac_util::prefilter::Prefilter;
 use ac_util::search::MatchKind;
 use std::alloc::{AllocError, Allocator, Global};
 use std::marker::Model;
-use std::rc::Rc;
+use std::sync::Arc;
 
 /// What every engine has: the patterns, which engines that are built from one another share, the match kind, the case
 /// setting, the lengths of the shortest and the longest pattern, and the prefilter.
 #[derive(Drop)]
 pub struct Common<A: Allocator = Global> {
-    patterns: Rc<Patterns<A>, A>,
+    patterns: Arc<Patterns<A>, A>,
     kind: MatchKind,
     ignores_case: bool,
     shortest: usize,
@@ -92,7 +92,7 @@ impl<A: Allocator + Clone> Common<A> {
         Ok(Common {
             shortest: shortest_of(&patterns),
             longest: longest_of(&patterns),
-            patterns: Rc::new(alloc, patterns)?,
+            patterns: Arc::new(alloc, patterns)?,
             kind,
             ignores_case,
             wants_prefilter,
@@ -104,7 +104,7 @@ impl<A: Allocator + Clone> Common<A> {
 impl<A: Allocator> Common<A> {
     /// Returns the patterns.
     #[inline]
-    pub fn patterns(&self) -> &Rc<Patterns<A>, A>
+    pub fn patterns(&self) -> &Arc<Patterns<A>, A>
         ensures { result.now.value ≡ self.now.patterns }
     {
         &self.patterns

@@ -127,8 +127,9 @@ impl<'a, A: Automaton> Finder<'a, A> {
     /// Returns a walk of a span that reads each byte once, where a walk by these finds may be one.
     #[inline]
     pub(super) fn onward(&self, span: Span) -> Option<Onward<'a, A>>
-        ensures { MatchOption result (reads_past_by self.now.picking.order self.now.anchored self.now.built.patterns
-            ≡ false) (BeginsPast A.seen self.now span) }
+        ensures { MatchOption result
+            (reads_past_by self.now.picking.order self.now.anchored self.now.built.patterns ≡ false)
+            (BeginsPast A.seen self.now span) }
     {
         if self.core.stops || !self.free {
             return None;

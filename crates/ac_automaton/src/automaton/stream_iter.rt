@@ -2,7 +2,7 @@
 ghost use Rattle.std.specs.Prelude.{◌≡◌};
 ghost use Rattle.std.specs.Iterator.{at_most};
 ghost use Rattle.ac_automaton.specs.Answers.{BeginsStream};
-ghost use Rattle.ac_automaton.specs.Streams.{Streams, ReadsItem, items_left, kept_len, initial_stream, on};
+ghost use Rattle.ac_automaton.specs.Streams.{Streams, items_left, kept_len, initial_stream, on, GivesRead};
 
 use super::Automaton;
 use super::stream::StreamFinder;
@@ -64,7 +64,7 @@ impl<'a, A: Automaton, R: Source + Drop, Z: Allocator> StreamFindIter<'a, A, R, 
     /// Returns the next match of the bytes that were read, without reading on. `None` says that all their matches that
     /// are settled were returned.
     pub fn next_read(&mut self) -> Option<Match>
-        ensures { ReadsItem self.old result self.new }
+        ensures { GivesRead self.old.stream result self.new.stream × (self.new.reader ≡ self.old.reader) }
     {
         self.finder.next_read()
     }

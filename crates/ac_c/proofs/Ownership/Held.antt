@@ -1,5 +1,5 @@
 -- The two cases of an address that may be null. Assumes `Logic`.
-use Rattle.std.proofs.Common.{◌≡◌, ℕ, List, ◌∷◌, refl, subst}
+use Rattle.ac_util.proofs.Prelude.{◌≡◌, ℕ, List, ◌∷◌, refl, subst}
 use seplogic.Ra.Ura.{Ura}
 use mir.Raw.{raw as bare}
 use base.Logic.{ent, guard, via, never, fst∗, snd∗, guard_i}

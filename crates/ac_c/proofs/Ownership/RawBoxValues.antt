@@ -1,5 +1,5 @@
 -- The machine values of a `RawBox`. Assumes `Logic`.
-use Rattle.std.proofs.Common.{◌≡◌, ℕ, List, [], ◌∷◌, ◌++◌, refl, subst}
+use Rattle.ac_util.proofs.Prelude.{◌≡◌, ℕ, List, [], ◌∷◌, ◌++◌, refl, subst}
 use mathlib.Core.Bool.{true, ◌&&◌}
 use lib.Dec.{T}
 use seplogic.Ra.Ura.{Ura}

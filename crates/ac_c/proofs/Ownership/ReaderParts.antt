@@ -1,5 +1,5 @@
 -- What a reader lends of its part: the value, for as long as the part is lent. Assumes `Logic`.
-use Rattle.std.proofs.Common.{ℕ, [], ◌∷◌}
+use Rattle.ac_util.proofs.Prelude.{ℕ, [], ◌∷◌}
 use seplogic.Ra.Ura.{Ura}
 use base.FractionLaws.{Counts}
 use base.Logic.{ent, sep, upd_i, id⊢}

@@ -23,8 +23,8 @@ module _ (f : Packer) (nodes : List Node) where
   -- what the state of a number spells
   abbrev pub packed_state : ℕ → Node → PackedState
   packed_state s u =
-      packed_at (packed_of f.plan nodes f.numbers []) (places_of f.plan nodes f.numbers) (if nat_eq s ANCHORED_START
-      then Yes else No) u
+      packed_at (packed_of f.plan nodes f.numbers []) (places_of f.plan nodes f.numbers)
+      (if nat_eq s ANCHORED_START then Yes else No) u
 
   -- its words
   abbrev pub state_words : ℕ → Node → List ℕ

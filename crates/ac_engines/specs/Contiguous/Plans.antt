@@ -111,11 +111,3 @@ HasMatchLen q s matches = ForNode (MayPack q) s (λ nodes u. matches ≡ length 
 -- and this form
 abbrev pub HasFormat : PackPlan → ℕ → Format → Type 0
 HasFormat q s format = ForNode (MayPack q) s (λ nodes u. format ≡ format_for q u)
-
--- up to this place those stand that have matches
-abbrev pub IsFrontEnd : PackPlan → ℕ → Type 0
-IsFrontEnd q place = (nodes : List Node) → MayPack q nodes → place ≡ front_end q nodes
-
--- the error is that memory was refused, unless the number is more than a state may have as its number
-abbrev pub IsMemoryUnless : ℕ → BuildError → Type 0
-IsMemoryUnless number e = (e ≡ Memory) ⊎ (GREATEST < number)

@@ -111,16 +111,13 @@ one_words failure (e ∷ edges) = (one_form + 256 * e.class) ∷ failure ∷ e.t
 abbrev pub dense_head : ℕ → PackedState → List ℕ
 dense_head classes s = dense_form ∷ s.failure ∷ map (target_by s.default_target s.edges) (range_with_len 0 classes)
 
-abbrev pub one_head : PackedState → List ℕ
-one_head s = one_words s.failure s.edges
-
 abbrev pub sparse_head : PackedState → List ℕ
 sparse_head s = length s.edges ∷ s.failure ∷ class_words (map (λ e. e.class) s.edges) ++ map (λ e. e.target) s.edges
 
 -- the words of a state, where there are so many classes
 unfoldable pub format_words : Format → ℕ → PackedState → List ℕ
 format_words Dense classes s = dense_head classes s ++ match_list_words s.matches
-format_words One classes s = one_head s
+format_words One classes s = one_words s.failure s.edges
 format_words Sparse classes s = sparse_head s ++ match_list_words s.matches
 
 -- a form can spell these transitions and matches: a form that isn't dense leads nowhere where there is no transition

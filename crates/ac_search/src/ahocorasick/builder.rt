@@ -17,7 +17,7 @@ use ac_util::error::BuildError;
 use ac_util::search::{MatchKind, StartKind};
 use std::alloc::{AllocError, Allocator};
 use std::marker::Model;
-use std::rc::Rc;
+use std::sync::Arc;
 
 /// The dense depth of a contiguous NFA unless another is set: states of strings shorter than this are dense.
 const USUAL_DENSE_DEPTH: usize = 2;
@@ -354,7 +354,7 @@ impl AhoCorasickBuilder {
 ///
 /// # Errors
 /// `AllocError` where a request for memory is refused.
-fn shared<T: Drop, A: Allocator + Clone>(alloc: &A, value: T) -> Result<Rc<T, A>, AllocError>
+fn shared<T: Drop, A: Allocator + Clone>(alloc: &A, value: T) -> Result<Arc<T, A>, AllocError>
     ensures { IfOk result (λ shared. shared.value ≡ value) }
 {
     shared_in(alloc.clone()?, value)
@@ -364,8 +364,8 @@ fn shared<T: Drop, A: Allocator + Clone>(alloc: &A, value: T) -> Result<Rc<T, A>
 ///
 /// # Errors
 /// `AllocError` where a request for memory is refused.
-fn shared_in<T: Drop, A: Allocator>(alloc: A, value: T) -> Result<Rc<T, A>, AllocError>
+fn shared_in<T: Drop, A: Allocator>(alloc: A, value: T) -> Result<Arc<T, A>, AllocError>
     ensures { IfOk result (λ shared. shared.value ≡ value) }
 {
-    Ok(Rc::new(alloc, value)?)
+    Ok(Arc::new(alloc, value)?)
 }

@@ -14,7 +14,7 @@ use ac_util::error::{MatchError, ReplaceError, StreamError};
 use ac_util::search::{Input, Match, MatchKind};
 use std::alloc::{AllocError, Allocator};
 use std::io;
-use std::rc::Rc;
+use std::sync::Arc;
 
 /// Does the same with a value of each engine's type. With a second name, what that gives is made a value of that enum.
 macro_rules! by_engine {
@@ -39,9 +39,9 @@ pub(super) use by_engine;
 /// The engine of a searcher, which its clones share.
 #[derive(Drop)]
 pub(super) enum Engine<A: Allocator> {
-    Noncontiguous(Rc<noncontiguous::NFA<A>, A>),
-    Contiguous(Rc<contiguous::NFA<A>, A>),
-    Dfa(Rc<dfa::DFA<A>, A>),
+    Noncontiguous(Arc<noncontiguous::NFA<A>, A>),
+    Contiguous(Arc<contiguous::NFA<A>, A>),
+    Dfa(Arc<dfa::DFA<A>, A>),
 }
 
 impl<A: Allocator> Engine<A> {

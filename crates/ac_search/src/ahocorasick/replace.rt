@@ -1,7 +1,7 @@
 //! Replacement of the matches of a haystack in memory.
 ghost use Rattle.std.specs.Prelude.{◌≡◌, Err, IfErr, IfOk, MatchResult, None, Ok, length, string_bytes};
-ghost use Rattle.ac_automaton.specs.Util.{bytes_of, replace_refusal, exchanged, exchanged_in_text};
-ghost use Rattle.ac_automaton.specs.Answers.{AnswersBytes, AnswersText, AreReplacedBytes, ExchangesBytes, ExchangesText, IsReplacedText, StepsBy};
+ghost use Rattle.ac_automaton.specs.Util.{bytes_of, replace_refusal, exchanged, exchanged_in_text, replaced};
+ghost use Rattle.ac_automaton.specs.Answers.{AnswersBytes, AnswersText, ExchangesBytes, ExchangesText, IsReplacedText, StepsBy};
 
 use super::AhoCorasick;
 use ac_automaton::automaton::{
@@ -65,7 +65,8 @@ impl<A: Allocator> AhoCorasick<A> {
     ) -> Result<Vec<u8, Z>, AllocError>
         requires supported { replace_refusal self.now.built ≡ None }
         requires texts { length texts.now ≡ length self.now.built.patterns }
-        ensures { IfOk result (AreReplacedBytes self.now.built haystack.now (bytes_of texts.now)) }
+        ensures { IfOk result (λ whole.
+            whole.items ≡ replaced haystack.now (bytes_of texts.now) (exchanged self.now.built haystack.now)) }
     {
         unrefused(self.try_replace_all_bytes(alloc, haystack, texts))
     }

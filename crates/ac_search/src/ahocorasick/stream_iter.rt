@@ -1,7 +1,7 @@
 //! The iterator over the matches of what a reader gives.
 ghost use Rattle.std.specs.Prelude.{◌≡◌};
 ghost use Rattle.std.specs.Iterator.{at_most};
-ghost use Rattle.ac_automaton.specs.Streams.{Streams, ReadsItem, items_left, kept_len};
+ghost use Rattle.ac_automaton.specs.Streams.{Streams, items_left, kept_len, GivesRead};
 
 use super::stream::StreamFinder;
 use ac_util::device::Source;
@@ -44,7 +44,7 @@ impl<'a, R: Source + Drop, A: Allocator, Z: Allocator> StreamFindIter<'a, R, A, 
     /// Returns the next match of the bytes that were read, without reading on. `None` says that all their matches that
     /// are settled were returned.
     pub fn next_read(&mut self) -> Option<Match>
-        ensures { ReadsItem self.old result self.new }
+        ensures { GivesRead self.old.stream result self.new.stream × (self.new.reader ≡ self.old.reader) }
     {
         self.finder.next_read()
     }

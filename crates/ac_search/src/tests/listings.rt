@@ -92,7 +92,7 @@ fn listed_by_state(
 }
 
 /// Compares the listing of the searcher of a builder with what a row says: by a state, which is asked twice more, and if it isn't
-/// anchored by an iterator.
+/// anchored by the iterators of both calls.
 fn compare_row(
     rt: &impl Abort,
     alloc: Global,
@@ -110,7 +110,9 @@ fn compare_row(
     let by_state = listed_by_state(alloc, &searcher, input, most)?;
     same_by(rt, by_state.as_slice(), wanted, builder);
     if !anchored.is_anchored() {
-        let listed = triples_of(alloc, searcher.try_find_overlapping_iter(input)?)?;
+        let tried = triples_of(alloc, searcher.try_find_overlapping_iter(input)?)?;
+        same_by(rt, tried.as_slice(), wanted, builder);
+        let listed = triples_of(alloc, searcher.find_overlapping_iter(input))?;
         same_by(rt, listed.as_slice(), wanted, builder);
     }
     Ok(())

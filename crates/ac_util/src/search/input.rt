@@ -85,15 +85,7 @@ impl<'h> Input<'h> {
 
     /// Returns the input with the span of this range. This ports `Input::range`.
     ///
-    /// The range has to end within the haystack, and to start no later than one past its own end.
-    ///
-    /// ```
-    /// let searcher = AhoCorasick::new(alloc, &[b"foo", b"bar"])?;
-    /// let input = Input::new(b"foobar").range(3..6);
-    /// assert_eq!(rt; searcher.find(input), Some(Match::must(1, 3..6)));
-    /// let input = Input::new(b"foobar").span(Span { start: 0, end: 3 });
-    /// assert_eq!(rt; searcher.find(input), Some(Match::must(0, 0..3)));
-    /// ```
+    /// The range has to end within the haystack, and to start no later than one past its own end. See the example of `span`.
     #[inline]
     pub fn range(mut self, range: Range<usize>) -> Input<'h>
         requires legal { IsLegal (input_of self).haystack range.start range.end }

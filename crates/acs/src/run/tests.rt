@@ -10,6 +10,7 @@ use std::process::Abort;
 
 mod reads;
 mod sizes;
+mod worked;
 mod writes;
 
 /// How a run ends.

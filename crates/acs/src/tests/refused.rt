@@ -14,6 +14,7 @@ mod replaced;
 mod requests;
 mod runs;
 mod streamed;
+mod taken;
 
 /// Three patterns, of which two begin others.
 const WORDS: [&[u8]; 3] = [b"append", b"appendage", b"app"];

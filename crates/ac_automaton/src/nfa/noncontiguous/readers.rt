@@ -8,7 +8,7 @@ use super::{ANCHORED_START, FIRST_INNER, NFA};
 use ac_util::patterns::Patterns;
 use ac_util::primitives::{GREATEST, StateID};
 use std::alloc::Allocator;
-use std::rc::Rc;
+use std::sync::Arc;
 
 impl<A: Allocator> NFA<A> {
     /// Returns how many states there are: their numbers are those below this one.
@@ -75,7 +75,7 @@ impl<A: Allocator> NFA<A> {
 
     /// Returns the patterns, which an engine that is built from this one shares.
     #[inline]
-    pub fn patterns(&self) -> &Rc<Patterns<A>, A>
+    pub fn patterns(&self) -> &Arc<Patterns<A>, A>
         ensures { result.now.value ≡ self.now.built.patterns }
     {
         self.common.patterns()

@@ -307,11 +307,11 @@ fn is_shadowed<'p, A: Allocator>(
     ignores_case: bool,
 ) -> bool
     ensures left { prefixes.new.items ≡ take (length prefixes.new.items) prefixes.old.items }
-    ensures gone { AllWithin (λ p. is_prefix ignores_case pattern.now p
-        ≡ false) prefixes.old.items (length prefixes.new.items) (length prefixes.old.items) }
+    ensures gone { AllWithin (λ p. is_prefix ignores_case pattern.now p ≡ false)
+        prefixes.old.items (length prefixes.new.items) (length prefixes.old.items) }
     ensures shadowed { IsTrue result → HasShadow ignores_case pattern.now prefixes.new.items }
-    ensures free { result ≡ false → 0 < length prefixes.new.items → HoldsAt
-        (λ p. pattern.now.number ≤ p.number) prefixes.new.items (length prefixes.new.items - 1) }
+    ensures free { result ≡ false → 0 < length prefixes.new.items
+        → HoldsAt (λ p. pattern.now.number ≤ p.number) prefixes.new.items (length prefixes.new.items - 1) }
 {
     let mut left = prefixes.len();
     while left > 0 && !begins_with(pattern.bytes, prefixes[left - 1].bytes, ignores_case) {

@@ -1,4 +1,4 @@
-use Rattle.std.proofs.Common.{rules}
+use Rattle.ac_util.proofs.Prelude.{rules}
 use Rattle.ac_search.specs.Built.{search_in}
 use Rattle.ac_search.specs.Pick.{order_of}
 use Rattle.ac_search.specs.declared.MatchKind.TheVariants.{Standard}

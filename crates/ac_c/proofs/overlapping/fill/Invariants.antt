@@ -1,4 +1,4 @@
-use Rattle.std.proofs.Common.{◌≡◌, ◌≤◌, ◌++◌, drop, length, map, take}
+use Rattle.ac_util.proofs.Prelude.{◌≡◌, ◌≤◌, ◌++◌, drop, length, map, take}
 use Rattle.ac_c.specs.Batches.{listing_from}
 use Rattle.ac_c.specs.Searches.{match_of}
 use Rattle.ac_c.specs.Steps.{ListingStandsAt}

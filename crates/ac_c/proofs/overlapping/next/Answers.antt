@@ -1,4 +1,4 @@
-use Rattle.std.proofs.Common.{List, ◌∷◌, subst, rules, arith}
+use Rattle.ac_util.proofs.Prelude.{List, ◌∷◌, subst, rules, arith}
 use Rattle.ac_search.specs.Occurrence.{Occurrence}
 use Rattle.ac_c.specs.Steps.{StandsInListing}
 use Rattle.ac_c.proofs.ListingSteps.{due-stepped, stands-few, stands-past, stands-stepped}

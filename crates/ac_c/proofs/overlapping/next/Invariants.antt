@@ -1,4 +1,4 @@
-use Rattle.std.proofs.Common.{◌≡◌, length}
+use Rattle.ac_util.proofs.Prelude.{◌≡◌, length}
 use Rattle.ac_c.specs.Steps.{ListingStandsAt}
 use Rattle.ac_c.proofs.overlapping.next.Given as goal
 

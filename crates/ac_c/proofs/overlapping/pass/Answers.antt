@@ -1,4 +1,4 @@
-use Rattle.std.proofs.Common.{rules}
+use Rattle.ac_util.proofs.Prelude.{rules}
 use Rattle.ac_c.proofs.ListLemmas.{drop-next}
 use Rattle.ac_c.proofs.overlapping.pass.Goals as goal
 

@@ -1,4 +1,4 @@
-use Rattle.std.proofs.Common.{◌≡◌, ◌≤◌, drop}
+use Rattle.ac_util.proofs.Prelude.{◌≡◌, ◌≤◌, drop}
 use Rattle.ac_c.specs.Batches.{listing_from}
 use Rattle.ac_c.specs.Steps.{ListingStandsAt}
 use Rattle.ac_c.proofs.overlapping.pass.Given as goal

@@ -1,4 +1,4 @@
-use Rattle.std.proofs.Common.{rules}
+use Rattle.ac_util.proofs.Prelude.{rules}
 use Rattle.ac_c.proofs.TextLemmas.{count-texts}
 use Rattle.ac_c.proofs.replace.replaced.Goals as goal
 

@@ -1,4 +1,4 @@
-use Rattle.std.proofs.Common.{◌≡◌, drop}
+use Rattle.ac_util.proofs.Prelude.{◌≡◌, drop}
 use Rattle.ac_c.specs.Texts.{are_ends}
 use Rattle.ac_c.proofs.texts.are_ends.Given as goal
 

@@ -1,4 +1,4 @@
-use Rattle.std.proofs.Common.{◌≡◌, ◌++◌, drop, length, true}
+use Rattle.ac_util.proofs.Prelude.{◌≡◌, ◌++◌, drop, length, true}
 use Rattle.ac_search.specs.Patterns.{bytes_of}
 use Rattle.ac_c.specs.Texts.{are_ends, texts_in}
 use Rattle.ac_c.proofs.texts.texts_in.Given as goal

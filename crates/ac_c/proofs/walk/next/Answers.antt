@@ -1,4 +1,4 @@
-use Rattle.std.proofs.Common.{Some, ◌∷◌, ap, arith, sym, ◌∙◌, rules}
+use Rattle.ac_util.proofs.Prelude.{Some, ◌∷◌, ap, arith, sym, ◌∙◌, rules}
 use Rattle.ac_search.specs.Occurrence.{from}
 use Rattle.ac_search.specs.Walk.{walk_after}
 use Rattle.ac_util.proofs.Walks.{next-in_span, walk_after-None, walk_after-Some}

@@ -1,5 +1,4 @@
-use Rattle.std.proofs.Common.{◌≡◌, inl, inr, ◌∙◌, sym}
-use Rattle.std.proofs.lemmas.Bool.{false≢true}
+use Rattle.ac_util.proofs.Prelude.{◌≡◌, inl, inr, ◌∙◌, sym, false≢true}
 use Rattle.ac_c.proofs.WalkSteps.{takes-first}
 use Rattle.ac_c.proofs.walk.take.Goals as goal
 

@@ -1,4 +1,4 @@
-use Rattle.std.proofs.Common.{List, ◌++◌, map, take, sym, ap, ◌∙◌, rules}
+use Rattle.ac_util.proofs.Prelude.{List, ◌++◌, map, take, sym, ap, ◌∙◌, rules}
 use Rattle.ac_search.specs.Built.{search_in}
 use Rattle.ac_search.specs.Input.{input_of}
 use Rattle.ac_search.specs.Occurrence.{Occurrence, from}

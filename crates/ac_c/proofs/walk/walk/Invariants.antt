@@ -1,4 +1,4 @@
-use Rattle.std.proofs.Common.{◌≡◌, ◌≤◌, ◌++◌, drop, length, map, take}
+use Rattle.ac_util.proofs.Prelude.{◌≡◌, ◌≤◌, ◌++◌, drop, length, map, take}
 use Rattle.ac_search.specs.Built.{search_in}
 use Rattle.ac_search.specs.Input.{input_of}
 use Rattle.ac_search.specs.Occurrence.{from}

@@ -1,4 +1,4 @@
-use Rattle.std.proofs.Common.{rules}
+use Rattle.ac_util.proofs.Prelude.{rules}
 use Rattle.ac_util.proofs.ClassLists.{classes_of-set_apart, singletons-set_apart}
 use Rattle.ac_engines.proofs.classes.classes_for.Goals as goal
 

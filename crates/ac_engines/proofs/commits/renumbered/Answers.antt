@@ -1,10 +1,6 @@
-use Rattle.std.proofs.Common.{◌≡◌, ◌∙◌, sym, ap, refl, subst, List, [], ◌∷◌, ◌++◌, None, Option, Some, filter_map, length, slice_get, take, ◌+◌}
-use Rattle.std.proofs.lemmas.List.{append-nil}
-use Rattle.std.proofs.lemmas.List.Elements.{filter_map-append}
-use Rattle.std.proofs.lemmas.Option.{slice_get_read}
-use Rattle.ac_automaton.specs.declared.automaton.commits.Commit.{Commit}
+use Rattle.ac_util.proofs.Prelude.{◌≡◌, ◌∙◌, sym, ap, refl, subst, List, [], ◌∷◌, ◌++◌, None, Option, Some, filter_map, length, slice_get, take, ◌+◌, append-nil, filter_map-append, slice_get_read}
+use Rattle.ac_engines.specs.Prelude.{Commit, renumbered_one}
 use Rattle.ac_automaton.proofs.Places.{take-next}
-use Rattle.ac_engines.specs.Commits.{renumbered_one}
 use Rattle.ac_engines.proofs.commits.renumbered.Goals as goal
 use Rattle.ac_engines.proofs.commits.renumbered.Goals.{in-Some+in_ok-push, in_default}
 

@@ -1,5 +1,5 @@
-use Rattle.std.proofs.Common.{◌≡◌, filter_map, take}
-use Rattle.ac_engines.specs.Commits.{renumbered_one}
+use Rattle.ac_util.proofs.Prelude.{◌≡◌, filter_map, take}
+use Rattle.ac_engines.specs.Prelude.{renumbered_one}
 use Rattle.ac_engines.proofs.commits.renumbered.Given as goal
 
 -- the commits so far have their numbers

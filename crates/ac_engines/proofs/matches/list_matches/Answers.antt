@@ -1,5 +1,5 @@
-use Rattle.std.proofs.Common.{ap, sym, ◌∙◌, ℕ}
-use Rattle.ac_automaton.specs.Prelude.{is_due}
+use Rattle.ac_util.proofs.Prelude.{ap, sym, ◌∙◌, ℕ}
+use Rattle.ac_engines.specs.Prelude.{is_due}
 use Rattle.ac_engines.proofs.Listing.{has-first, may-begin, none-listed, one-more}
 use Rattle.ac_engines.proofs.matches.list_matches.Goals as goal
 

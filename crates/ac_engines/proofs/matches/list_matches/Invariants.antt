@@ -1,6 +1,5 @@
-use Rattle.std.proofs.Common.{◌≡◌, List, length, Some, slice_get}
-use Rattle.ac_util.specs.Node.{Node}
-use Rattle.ac_automaton.specs.Tries.{AreNodes}
+use Rattle.ac_util.proofs.Prelude.{◌≡◌, List, length, Some, slice_get}
+use Rattle.ac_engines.specs.Prelude.{Node, AreNodes}
 use Rattle.ac_engines.proofs.Listing.{HasListed, MayRead, rest_of}
 use Rattle.ac_engines.proofs.matches.list_matches.Given as goal
 

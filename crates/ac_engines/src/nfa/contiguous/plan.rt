@@ -1,8 +1,9 @@
 //! Which form the states of a trie take, and where each is placed.
-ghost use Rattle.std.specs.Prelude.{◌≡◌, ◌+◌, ◌≤◌, ◌++◌, ◌∷◌, IfErr, IfOk, List, [], length};
+ghost use Rattle.std.specs.Prelude.{◌≡◌, ◌+◌, ◌≤◌, ◌++◌, ◌∷◌, IfErr, IfOk, List, [], length, ◌⊎◌, ◌<◌};
 ghost use Rattle.ac_automaton.specs.Prelude.{ForNode};
 ghost use Rattle.ac_automaton.specs.Util.{alphabet_len, AreClasses, GREATEST, Node, SetsApart};
-ghost use Rattle.ac_engines.specs.Contiguous.Plans.{HasFormat, HasMatchLen, HasWords, IsFrontEnd, IsMemoryUnless, MayPack, all_words, has_matches, size_of, HasPlaces};
+ghost use Rattle.ac_engines.specs.Contiguous.Plans.{HasFormat, HasMatchLen, HasWords, MayPack, all_words, has_matches, size_of, HasPlaces, front_end};
+ghost use Rattle.ac_util.specs.declared.error.BuildError.TheVariants.{Memory};
 
 use super::format::{Format, check_words, format_of, state_words};
 use ac_automaton::automaton::Automaton;
@@ -131,7 +132,7 @@ impl<'a, A: Allocator> Plan<'a, A> {
     /// Returns the address at which the states that have matches end.
     pub(super) fn front_end(&self) -> u64
         requires may { (nodes : List Node) × MayPack self.now nodes }
-        ensures { IsFrontEnd self.now result }
+        ensures { (nodes : List Node) → MayPack self.now nodes → result ≡ front_end self.now nodes }
     {
         let mut end = self.dead_words();
         for state in START..self.nfa.states_len() {
@@ -153,11 +154,11 @@ impl<'a, A: Allocator + Clone> Plan<'a, A> {
     /// memory is refused.
     pub(super) fn numbers(&self, alloc: &A, match_end: u64) -> Result<Numbers<A>, BuildError>
         requires may { (nodes : List Node) × MayPack self.now nodes }
-        requires front { IsFrontEnd self.now match_end }
+        requires front { (nodes : List Node) → MayPack self.now nodes → match_end ≡ front_end self.now nodes }
         ensures places { IfOk result
             (λ numbers. (nodes : List Node) → MayPack self.now nodes → HasPlaces self.now nodes numbers.list.items) }
         ensures all { IfOk result (λ numbers. numbers.all ≡ all_words self.now) }
-        ensures refused { IfErr result (IsMemoryUnless (all_words self.now)) }
+        ensures refused { IfErr result (λ e. (e ≡ Memory) ⊎ (GREATEST < all_words self.now)) }
     {
         let mut list = first_numbers(alloc.clone()?, self.nfa.states_len())?;
         let mut front = self.dead_words();
@@ -197,7 +198,7 @@ fn first_numbers<A: Allocator>(alloc: A, states: usize) -> Result<Vec<StateID, A
 fn push_number<A: Allocator>(list: &mut Vec<StateID, A>, number: u64) -> Result<(), BuildError>
     ensures small { IfOk result (λ _. number ≤ GREATEST) }
     ensures items { IfOk result (λ _. list.new.items ≡ list.old.items ++ number ∷ []) }
-    ensures refused { IfErr result (IsMemoryUnless number) }
+    ensures refused { IfErr result (λ e. (e ≡ Memory) ⊎ (GREATEST < number)) }
 {
     let number = check_words(number)?;
     list.push(StateID::must(number as usize))?;

@@ -2,7 +2,7 @@
 ghost use Rattle.std.specs.Prelude.{◌≡◌, ◌-◌, ◌<◌, ◌≤◌, ◌++◌, ◌∷◌, IfOk, [], length, map, min, slice_index};
 ghost use Rattle.std.specs.List.{All};
 ghost use Rattle.std.specs.List.Sorted.{IsStrictlyIncreasing};
-ghost use Rattle.ac_engines.specs.Contiguous.Words.{Appends, Fits, HasTargets, class_words, match_list_words, dense_head, one_head, format_words, sparse_head};
+ghost use Rattle.ac_engines.specs.Contiguous.Words.{Appends, Fits, HasTargets, class_words, match_list_words, dense_head, format_words, sparse_head, one_words};
 
 use super::format::{CLASSES_A_WORD, Format, MOST_SPARSE};
 use super::state::{DENSE, Edge, ONE, ONE_MATCH};
@@ -108,7 +108,8 @@ pub(super) fn push_one<A: Allocator>(
     state_fields: &StateFields<'_>,
 ) -> Result<(), AllocError>
     requires one { length state_fields.now.edges ≡ 1 }
-    ensures { Appends words.old.items words.new.items (one_head state_fields.now) result }
+    ensures { Appends words.old.items words.new.items
+        (one_words state_fields.now.failure state_fields.now.edges) result }
 {
     let edge = state_fields.edges[0];
     words.push(u32::from_le_bytes([ONE, edge.class, 0, 0]))?;

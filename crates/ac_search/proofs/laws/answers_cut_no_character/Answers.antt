@@ -1,6 +1,6 @@
-use Rattle.std.proofs.Common.{arith}
-use Rattle.std.proofs.lemmas.List.Elements.{recursion_from_All}
-use Rattle.ac_automaton.specs.Util.{all, input_of, IsBetweenCharacters, search_in, walk_result}
+use Rattle.ac_util.proofs.Prelude.{arith, recursion_from_All}
+use Rattle.ac_search.specs.Prelude.{IsBetweenCharacters, walk_result}
+use Rattle.ac_automaton.specs.Util.{all, input_of, search_in}
 use Rattle.ac_util.proofs.TextCuts.{find_result-between, listed-between, walk_result-between}
 use Rattle.ac_search.proofs.laws.answers_cut_no_character.Goals as goal
 

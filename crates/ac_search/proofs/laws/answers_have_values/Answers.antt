@@ -1,7 +1,6 @@
-use Rattle.std.proofs.Common.{◌<◌, arith, length}
-use Rattle.std.proofs.lemmas.List.Elements.{All-weaker, recursion_from_All}
-use Rattle.std.proofs.lemmas.Grind.{common_steps}
-use Rattle.ac_automaton.specs.Util.{all, input_of, LiesIn, Occurrence, search_in, walk_result}
+use Rattle.ac_util.proofs.Prelude.{◌<◌, arith, length, All-weaker, recursion_from_All, common_steps}
+use Rattle.ac_search.specs.Prelude.{walk_result}
+use Rattle.ac_automaton.specs.Util.{all, input_of, LiesIn, Occurrence, search_in}
 use Rattle.ac_util.proofs.Lying.{find_result-IfSome, listed-lie, walk_result-lie}
 use Rattle.ac_search.proofs.laws.answers_have_values.Goals as goal
 

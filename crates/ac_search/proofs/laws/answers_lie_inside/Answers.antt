@@ -1,6 +1,4 @@
-use Rattle.std.proofs.Common.{arith, rules}
-use Rattle.std.proofs.lemmas.List.Elements.{All-weaker, recursion_from_All}
-use Rattle.std.proofs.lemmas.Grind.{common_steps}
+use Rattle.ac_util.proofs.Prelude.{arith, rules, All-weaker, recursion_from_All, common_steps}
 use Rattle.ac_automaton.specs.Util.{input_of}
 use Rattle.ac_util.proofs.Lying.{find_result-IfSome, walk_result-lie, length-walk_result, listed-lie}
 use Rattle.ac_search.proofs.laws.answers_lie_inside.Goals as goal

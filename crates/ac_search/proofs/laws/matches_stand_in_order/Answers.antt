@@ -1,4 +1,4 @@
-use Rattle.std.proofs.Common.{arith}
+use Rattle.ac_util.proofs.Prelude.{arith}
 use Rattle.ac_automaton.specs.Util.{input_of}
 use Rattle.ac_search.proofs.InOrder.{walk-stands}
 use Rattle.ac_search.proofs.laws.matches_stand_in_order.Goals as goal

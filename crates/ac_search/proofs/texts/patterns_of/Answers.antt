@@ -1,5 +1,4 @@
-use Rattle.std.proofs.Common.{arith}
-use Rattle.std.proofs.lemmas.Grind.{common_steps}
+use Rattle.ac_util.proofs.Prelude.{arith, common_steps}
 use Rattle.ac_search.proofs.Words.{texts-push}
 use Rattle.ac_search.proofs.texts.patterns_of.Goals as goal
 

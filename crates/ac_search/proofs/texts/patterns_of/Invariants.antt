@@ -1,4 +1,4 @@
-use Rattle.std.proofs.Common.{◌≡◌, ◌++◌, All, drop}
+use Rattle.ac_util.proofs.Prelude.{◌≡◌, ◌++◌, All, drop}
 use Rattle.std.specs.Str.{IsUtf8}
 use Rattle.ac_util.specs.Patterns.{bytes_of}
 use Rattle.ac_search.proofs.texts.patterns_of.Given as goal

@@ -1,6 +1,5 @@
-use Rattle.std.proofs.Common.{◌≡◌, ℕ, ◌||◌, false, length, take, get_or}
-use Rattle.std.specs.List.{list_any}
-use Rattle.ac_util.specs.Occurrence.{plain_byte, same_byte}
+use Rattle.ac_util.proofs.Prelude.{◌≡◌, ℕ, ◌||◌, false, length, take, get_or, list_any}
+use Rattle.ac_util.specs.Prelude.{plain_byte, same_byte}
 use Rattle.ac_util.proofs.alphabet.mark.Given as goal
 
 -- the bytes of the pattern so far are marked too

@@ -1,8 +1,6 @@
-use Rattle.std.proofs.Common.{[], refl, arith}
-use Rattle.std.proofs.lemmas.List.Folds.{list_any_more}
-use Rattle.std.proofs.lemmas.Option.{get_or_from_slice_get}
-use Rattle.std.proofs.lemmas.Grind.{common_steps}
+use Rattle.ac_util.proofs.Prelude.{[], refl, arith, get_or_from_slice_get, common_steps}
 use Rattle.ac_util.specs.Prelude.{plain_byte}
+use Rattle.std.proofs.lemmas.List.Folds.{list_any_more}
 use Rattle.ac_util.proofs.ClassLists.{none_marked}
 use Rattle.ac_util.proofs.alphabet.marks_of.Goals as goal
 

@@ -1,4 +1,4 @@
-use Rattle.std.proofs.Common.{◌≡◌, ℕ, false, length, take, get_or}
+use Rattle.ac_util.proofs.Prelude.{◌≡◌, ℕ, false, length, take, get_or}
 use Rattle.ac_util.specs.Prelude.{plain_byte, is_in_patterns}
 use Rattle.ac_util.proofs.alphabet.marks_of.Given as goal
 

@@ -1,5 +1,4 @@
-use Rattle.std.proofs.Common.{length-drop, arith, rules}
-use Rattle.std.proofs.lemmas.Grind.{common_steps}
+use Rattle.ac_util.proofs.Prelude.{length-drop, arith, rules, common_steps}
 use Rattle.ac_util.proofs.Devices.{append-more, beginning, not-idle, rest-range, take-short}
 use Rattle.ac_util.proofs.device.write_all.Goals as goal
 

@@ -1,5 +1,4 @@
-use Rattle.std.proofs.Common.{rules}
-use Rattle.std.proofs.lemmas.List.{length-map, get_or-map}
+use Rattle.ac_util.proofs.Prelude.{rules, length-map, get_or-map}
 use Rattle.ac_util.proofs.LimitLemmas.{too_long-next, too_long-here}
 use Rattle.ac_util.proofs.patterns.check_limits.Goals as goal
 

@@ -1,5 +1,5 @@
-use Rattle.std.proofs.Common.{◌≡◌, drop, map}
-use Rattle.ac_util.specs.Patterns.{limit_refusal, too_long_from}
+use Rattle.ac_util.proofs.Prelude.{◌≡◌, drop, map}
+use Rattle.ac_util.specs.Prelude.{limit_refusal, too_long_from}
 use Rattle.ac_util.proofs.patterns.check_limits.Given as goal
 
 -- what is refused is refused for a pattern from here on

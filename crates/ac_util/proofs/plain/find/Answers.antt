@@ -1,5 +1,4 @@
-use Rattle.std.proofs.Common.{rules}
-use Rattle.std.proofs.lemmas.Bool.{false≢true}
+use Rattle.ac_util.proofs.Prelude.{rules, false≢true}
 use Rattle.ac_util.proofs.PlainFind.{pattern_of-bytes_of, start_with, start_without, numbers_tried}
 use Rattle.ac_util.proofs.plain.find.Goals as goal
 use Rattle.ac_util.proofs.plain.find.Goals.{then-occurs, else-occurs}

@@ -1,5 +1,4 @@
-use Rattle.std.proofs.Common.{rules}
-use Rattle.std.proofs.lemmas.Bool.{false≢true}
+use Rattle.ac_util.proofs.Prelude.{rules, false≢true}
 use Rattle.ac_util.proofs.SamenessLemmas.{IsSame-at, IsSame-from_places}
 use Rattle.ac_util.proofs.plain.same_string.Goals as goal
 

@@ -1,5 +1,5 @@
-use Rattle.std.proofs.Common.{◌≡◌, ◌<◌, ℕ, get_or}
-use Rattle.ac_util.specs.Occurrence.{plain_byte}
+use Rattle.ac_util.proofs.Prelude.{◌≡◌, ◌<◌, ℕ, get_or}
+use Rattle.ac_util.specs.Prelude.{plain_byte}
 use Rattle.ac_util.proofs.plain.same_string.Given as goal
 
 -- the strings are the same at each place before this one

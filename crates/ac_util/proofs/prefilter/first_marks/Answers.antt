@@ -1,9 +1,7 @@
-use Rattle.std.proofs.Common.{[], length-set, refl, arith}
+use Rattle.ac_util.proofs.Prelude.{[], length-set, refl, arith, get_or_from_slice_get, common_steps}
+use Rattle.ac_util.specs.Prelude.{plain_byte}
 use Rattle.std.proofs.Math.Bool.{or-false}
 use Rattle.std.proofs.lemmas.List.Folds.{list_any_more}
-use Rattle.std.proofs.lemmas.Option.{get_or_from_slice_get}
-use Rattle.std.proofs.lemmas.Grind.{common_steps}
-use Rattle.ac_util.specs.Prelude.{plain_byte}
 use Rattle.ac_util.proofs.ClassLists.{none_marked}
 use Rattle.ac_util.proofs.Marks.{begins_with-first, begins_with-none, marked_more}
 use Rattle.ac_util.proofs.prefilter.first_marks.Goals as goal

@@ -1,5 +1,4 @@
-use Rattle.std.proofs.Common.{◌≡◌, ℕ, false, length, take, get_or}
-use Rattle.std.specs.List.{list_any}
+use Rattle.ac_util.proofs.Prelude.{◌≡◌, ℕ, false, length, take, get_or, list_any}
 use Rattle.ac_util.specs.Prelude.{begins_with, plain_byte}
 use Rattle.ac_util.proofs.prefilter.first_marks.Given as goal
 

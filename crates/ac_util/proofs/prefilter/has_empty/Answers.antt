@@ -1,8 +1,6 @@
-use Rattle.std.proofs.Common.{[], ◌∙◌, ap, sym, arith}
+use Rattle.ac_util.proofs.Prelude.{[], ◌∙◌, ap, sym, arith, get_or_from_slice_get, common_steps}
+use Rattle.ac_util.specs.Prelude.{is_empty}
 use Rattle.std.proofs.lemmas.List.Folds.{list_any_at, list_any_more}
-use Rattle.std.proofs.lemmas.Option.{get_or_from_slice_get}
-use Rattle.std.proofs.lemmas.Grind.{common_steps}
-use Rattle.ac_util.specs.Node.{is_empty}
 use Rattle.ac_util.proofs.Marks.{is_empty-length}
 use Rattle.ac_util.proofs.prefilter.has_empty.Goals as goal
 

@@ -1,6 +1,5 @@
-use Rattle.std.proofs.Common.{◌≡◌, false, take}
-use Rattle.std.specs.List.{list_any}
-use Rattle.ac_util.specs.Node.{is_empty}
+use Rattle.ac_util.proofs.Prelude.{◌≡◌, false, take, list_any}
+use Rattle.ac_util.specs.Prelude.{is_empty}
 use Rattle.ac_util.proofs.prefilter.has_empty.Given as goal
 
 -- none of the patterns so far is empty

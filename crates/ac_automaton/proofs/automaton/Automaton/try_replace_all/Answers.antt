@@ -1,4 +1,4 @@
-use Rattle.std.proofs.Common.{rules}
+use Rattle.ac_util.proofs.Prelude.{rules}
 use Rattle.ac_util.proofs.Exchanges.{exchanged-in_order}
 use Rattle.ac_automaton.proofs.automaton.Automaton.try_replace_all.Goals as goal
 

@@ -1,7 +1,5 @@
-use Rattle.std.proofs.Common.{◌≡◌, ap, subst}
-use Rattle.ac_automaton.specs.Util.{Built, bytes_of, FailsToReplace, ReplacesStream, Replacing}
-use Rattle.ac_automaton.specs.Prelude.{Streaming}
-use Rattle.ac_automaton.specs.declared.automaton.stream_replace.ByTexts.{ByTexts}
+use Rattle.ac_util.proofs.Prelude.{◌≡◌, ap, subst}
+use Rattle.ac_automaton.specs.Prelude.{Built, bytes_of, FailsToReplace, ReplacesStream, Replacing, Streaming, ByTexts}
 use Rattle.ac_automaton.proofs.StreamReplacing.{answers-by}
 use Rattle.ac_automaton.proofs.StreamTexts.{fails-by, replaces-by}
 use Rattle.ac_automaton.proofs.automaton.Automaton.try_stream_replace_all.Goals as goal

@@ -1,6 +1,5 @@
-use Rattle.std.proofs.Common.{◌≡◌, ap, subst}
-use Rattle.ac_automaton.specs.Util.{Built, FailsToReplaceWith, ReplacesStreamWith, Replacing}
-use Rattle.ac_automaton.specs.Prelude.{Streaming}
+use Rattle.ac_util.proofs.Prelude.{◌≡◌, ap, subst}
+use Rattle.ac_automaton.specs.Prelude.{Built, FailsToReplaceWith, ReplacesStreamWith, Replacing, Streaming}
 use Rattle.ac_automaton.proofs.StreamReplacing.{answers-by, fails-with, replaces-with}
 use Rattle.ac_automaton.proofs.automaton.Automaton.try_stream_replace_all_with.Goals as goal
 

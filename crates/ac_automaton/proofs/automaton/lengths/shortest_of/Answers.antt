@@ -1,6 +1,6 @@
 -- The shortest of the patterns read is counted with that of the others, which is the greatest `usize` at the
 -- end.
-use Rattle.std.proofs.Common.{rules}
+use Rattle.ac_util.proofs.Prelude.{rules}
 use Rattle.ac_automaton.proofs.Lengths.{shortest_len-drop, shortest_len-le}
 use Rattle.ac_automaton.proofs.automaton.lengths.shortest_of.Goals as goal
 

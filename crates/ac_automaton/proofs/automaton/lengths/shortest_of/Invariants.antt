@@ -1,8 +1,7 @@
 -- The shortest so far and that of the patterns left give the shortest of all.
-use Rattle.std.proofs.Common.{◌≡◌, ◌≤◌, drop, min}
-use Rattle.ac_util.specs.Patterns.{shortest_len}
+use Rattle.ac_util.proofs.Prelude.{◌≡◌, ◌≤◌, drop, min}
+use Rattle.ac_automaton.specs.Prelude.{shortest_len, usize_max}
 use Rattle.ac_automaton.proofs.automaton.lengths.shortest_of.Given as goal
-use Rattle.ac_automaton.specs.Util.{usize_max}
 
 abbrev pub invariant-loop-number : goal.invariant-loop-number
 invariant-loop-number g l = record {

@@ -1,7 +1,5 @@
-use Rattle.std.proofs.Common.{◌≡◌, Some, IfSome, Option, refl, ap, sym, subst, ◌∙◌, arith}
-use Rattle.ac_automaton.specs.Cores.{IsGivable, MayTakeFrom, pending}
-use Rattle.ac_automaton.specs.declared.automaton.commits.ChainMatch.{ChainMatch}
-use Rattle.ac_automaton.specs.declared.automaton.onward.ChainRest.{ChainRest}
+use Rattle.ac_util.proofs.Prelude.{◌≡◌, Some, IfSome, Option, refl, ap, sym, subst, ◌∙◌, arith}
+use Rattle.ac_automaton.specs.Prelude.{IsGivable, MayTakeFrom, pending, ChainMatch, ChainRest}
 use Rattle.ac_automaton.proofs.PastGives.{pending-nothing}
 use Rattle.ac_automaton.proofs.automaton.onward.take_next.Given.{Over}
 use Rattle.ac_automaton.proofs.automaton.onward.take_next.Goals.{After-get}

@@ -1,12 +1,10 @@
-use Rattle.std.proofs.Common.{true, ◌≡◌, [], ap, sym, subst, ◌∙◌, inl, inr, Option, Some, MatchOption, rules}
-use Rattle.std.proofs.lemmas.Bool.{cases_lt, false≢true}
-use Rattle.ac_automaton.specs.Util.{input_of, search_in, Span}
-use Rattle.ac_util.specs.declared.search.Anchored.{Anchored}
-use Rattle.ac_automaton.specs.Prelude.{in_memory, place_by, Reached, Scan, scan_of}
+use Rattle.ac_util.proofs.Prelude.{true, ◌≡◌, [], ap, sym, subst, ◌∙◌, inl, inr, Option, Some, MatchOption, rules, cases_lt, false≢true}
+use Rattle.ac_automaton.specs.Prelude.{input_of, search_in, Span, Anchored, in_memory, Reached, Scan, scan_of}
 use Rattle.ac_automaton.proofs.ListLoop.{arrived}
 use Rattle.ac_automaton.proofs.Overlapping.{GoesOnFrom, by_state-served, gives-moved, goes_on-there, past_end-gives}
 use Rattle.ac_automaton.proofs.automaton.overlap.try_find_overlapping.Given.{Over}
 use Rattle.ac_automaton.proofs.automaton.overlap.try_find_overlapping.Goals.{After-open-tape, in-Some, in-None}
+use Rattle.ac_automaton.specs.Overlaps.{given_by}
 use Rattle.ac_automaton.proofs.automaton.overlap.try_find_overlapping.Goals as goal
 
 pub returns-then-is_done : goal.returns-then-is_done
@@ -22,7 +20,7 @@ module _ (g : Over) (c : After-open-tape g) where
 
   -- where the listing goes on
   goes_on : GoesOnFrom s (in_memory (input_of c.args.input).haystack span)
-      (place_by s.listed (search_in s.built (input_of c.args.input)) c.args.state.now) c.match-state.reached
+      (given_by s.listed (search_in s.built (input_of c.args.input)) c.args.state.now.reached) c.match-state.reached
   goes_on =
       let input = input_of c.args.input in
       let here = c.match-state.reached in

@@ -1,8 +1,7 @@
-use Rattle.std.proofs.Common.{◌≡◌, ◌∷◌, ◌∙◌, ◌++◌, ℕ, true, List, ap, arith, length, string_bytes, sym, subst, rules}
+use Rattle.ac_util.proofs.Prelude.{◌≡◌, ◌∷◌, ◌∙◌, ◌++◌, ℕ, true, List, ap, arith, length, string_bytes, sym, subst, rules, common_steps}
+use Rattle.ac_automaton.specs.Prelude.{AreInOrder, is_whole, whole_characters}
 use Rattle.std.specs.Str.{IsCharBoundary}
 use Rattle.std.proofs.lemmas.Str.{IsCharBoundary-start}
-use Rattle.std.proofs.lemmas.Grind.{common_steps}
-use Rattle.ac_automaton.specs.Util.{AreInOrder, is_whole, whole_characters}
 use Rattle.ac_util.proofs.Exchanges.{in_order-earlier, is_whole-ends, whole_characters-skip, whole_characters-take}
 use Rattle.ac_automaton.proofs.Exchanged.{ended, turned}
 use Rattle.ac_automaton.proofs.automaton.replace.replace_all.Goals as goal

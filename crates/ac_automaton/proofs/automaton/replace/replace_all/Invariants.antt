@@ -1,6 +1,6 @@
-use Rattle.std.proofs.Common.{◌≡◌, ◌++◌, length, string_bytes}
+use Rattle.ac_util.proofs.Prelude.{◌≡◌, ◌++◌, length, string_bytes}
+use Rattle.ac_automaton.specs.Prelude.{AreInOrder, bytes_of, replaced, replaced_from, whole_characters}
 use Rattle.std.specs.Str.{IsCharBoundary}
-use Rattle.ac_automaton.specs.Util.{AreInOrder, bytes_of, replaced, replaced_from, whole_characters}
 use Rattle.ac_automaton.proofs.automaton.replace.replace_all.Given as goal
 
 -- what was written, and then what stands from this place on with those of the matches left exchanged that cut no

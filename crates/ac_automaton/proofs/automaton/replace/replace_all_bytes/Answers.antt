@@ -1,6 +1,5 @@
-use Rattle.std.proofs.Common.{◌∙◌, ℕ, arith, length, subst, sym}
-use Rattle.std.proofs.lemmas.Grind.{common_steps}
-use Rattle.ac_automaton.specs.Util.{AreInOrder}
+use Rattle.ac_util.proofs.Prelude.{◌∙◌, ℕ, arith, length, subst, sym, common_steps}
+use Rattle.ac_automaton.specs.Prelude.{AreInOrder}
 use Rattle.ac_automaton.proofs.Exchanged.{ended, turned}
 use Rattle.ac_automaton.proofs.Exchanging.{slice_to_end}
 use Rattle.ac_automaton.proofs.automaton.replace.replace_all_bytes.Goals as goal

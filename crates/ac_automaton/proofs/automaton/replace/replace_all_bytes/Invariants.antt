@@ -1,5 +1,5 @@
-use Rattle.std.proofs.Common.{◌≡◌, ◌++◌, length}
-use Rattle.ac_automaton.specs.Util.{AreInOrder, bytes_of, replaced, replaced_from}
+use Rattle.ac_util.proofs.Prelude.{◌≡◌, ◌++◌, length}
+use Rattle.ac_automaton.specs.Prelude.{AreInOrder, bytes_of, replaced, replaced_from}
 use Rattle.ac_automaton.proofs.automaton.replace.replace_all_bytes.Given as goal
 
 -- what was written, and then what stands from this place on with the matches that are left exchanged, is the whole

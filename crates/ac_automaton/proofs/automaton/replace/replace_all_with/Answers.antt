@@ -1,8 +1,7 @@
-use Rattle.std.proofs.Common.{◌≡◌, ◌∙◌, ◌++◌, ℕ, true, [], List, ap, arith, refl, sym, subst, length, of_calls, rules, string_bytes}
+use Rattle.ac_util.proofs.Prelude.{◌≡◌, ◌∙◌, ◌++◌, ℕ, true, [], List, ap, arith, refl, sym, subst, length, of_calls, rules, string_bytes, common_steps}
+use Rattle.ac_automaton.specs.Prelude.{AreInOrder, is_whole, whole_characters}
 use Rattle.std.specs.Str.{IsCharBoundary}
 use Rattle.std.proofs.lemmas.Str.{IsCharBoundary-start}
-use Rattle.std.proofs.lemmas.Grind.{common_steps}
-use Rattle.ac_automaton.specs.Util.{AreInOrder, is_whole, whole_characters}
 use Rattle.ac_util.proofs.Exchanges.{in_order-earlier, is_whole-ends, whole_characters-skip, whole_characters-take}
 use Rattle.ac_automaton.proofs.Exchanging.{LeadsOn, leads-begin, leads-end, leads-end_refused, leads-out, leads-refused, leads-skip, leads-stop, leads-turn, steps-refused}
 use Rattle.ac_automaton.proofs.automaton.replace.replace_all_with.Given.{Over}

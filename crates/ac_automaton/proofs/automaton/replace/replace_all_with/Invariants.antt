@@ -1,6 +1,6 @@
-use Rattle.std.proofs.Common.{ℕ, length, string_bytes}
+use Rattle.ac_util.proofs.Prelude.{ℕ, length, string_bytes}
+use Rattle.ac_automaton.specs.Prelude.{AreInOrder, whole_characters}
 use Rattle.std.specs.Str.{IsCharBoundary}
-use Rattle.ac_automaton.specs.Util.{AreInOrder, whole_characters}
 use Rattle.ac_automaton.proofs.Exchanging.{LeadsOn}
 use Rattle.ac_automaton.proofs.automaton.replace.replace_all_with.Given as goal
 

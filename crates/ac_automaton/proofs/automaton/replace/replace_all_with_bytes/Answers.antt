@@ -1,6 +1,5 @@
-use Rattle.std.proofs.Common.{◌∙◌, ◌++◌, ℕ, [], List, ap, refl, sym, subst, length, of_calls, rules, arith}
-use Rattle.std.proofs.lemmas.Grind.{common_steps}
-use Rattle.ac_automaton.specs.Util.{AreInOrder}
+use Rattle.ac_util.proofs.Prelude.{◌∙◌, ◌++◌, ℕ, [], List, ap, refl, sym, subst, length, of_calls, rules, arith, common_steps}
+use Rattle.ac_automaton.specs.Prelude.{AreInOrder}
 use Rattle.ac_automaton.proofs.Exchanging.{LeadsOn, leads-begin, leads-end, leads-end_refused, leads-out, leads-refused, leads-stop, leads-turn, slice_to_end, steps-refused}
 use Rattle.ac_automaton.proofs.automaton.replace.replace_all_with_bytes.Given.{Over}
 use Rattle.ac_automaton.proofs.automaton.replace.replace_all_with_bytes.Goals as goal

@@ -1,5 +1,5 @@
-use Rattle.std.proofs.Common.{ℕ, length}
-use Rattle.ac_automaton.specs.Util.{AreInOrder}
+use Rattle.ac_util.proofs.Prelude.{ℕ, length}
+use Rattle.ac_automaton.specs.Prelude.{AreInOrder}
 use Rattle.ac_automaton.proofs.Exchanging.{LeadsOn}
 use Rattle.ac_automaton.proofs.automaton.replace.replace_all_with_bytes.Given as goal
 

@@ -1,5 +1,4 @@
-use Rattle.std.proofs.Common.{◌≡◌, ◌∙◌, ◌+◌, ℕ, List, Some, None, Ok, Err, sym, ap, subst, slice_range, arith, rules}
-use Rattle.std.proofs.lemmas.Grind.{common_steps}
+use Rattle.ac_util.proofs.Prelude.{◌≡◌, ◌∙◌, ◌+◌, ℕ, List, Some, None, Ok, Err, sym, ap, subst, slice_range, arith, rules, common_steps}
 use Rattle.ac_automaton.specs.Prelude.{GivesMatch, PassesPiece, Streaming}
 use Rattle.ac_automaton.proofs.Places.{refused-by}
 use Rattle.ac_automaton.proofs.StreamExchanging.{exchange-fails, gap-fails, replaced-match}

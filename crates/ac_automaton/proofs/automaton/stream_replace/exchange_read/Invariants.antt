@@ -1,6 +1,5 @@
-use Rattle.std.proofs.Common.{◌≡◌, ◌-◌, ℕ, length}
-use Rattle.ac_automaton.specs.Util.{Occurrence, Replacing}
-use Rattle.ac_automaton.specs.Prelude.{HasReplaced, matches_so_far}
+use Rattle.ac_util.proofs.Prelude.{◌≡◌, ◌-◌, ℕ, length}
+use Rattle.ac_automaton.specs.Prelude.{Occurrence, Replacing, HasReplaced, matches_so_far}
 use Rattle.ac_automaton.proofs.automaton.stream_replace.exchange_read.Given as goal
 
 -- whatever was done before, some more of the matches were exchanged

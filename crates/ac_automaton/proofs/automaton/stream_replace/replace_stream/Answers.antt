@@ -1,6 +1,5 @@
-use Rattle.std.proofs.Common.{Bool, subst, MatchBool, arith, rules}
-use Rattle.std.proofs.lemmas.Grind.{common_steps}
-use Rattle.ac_automaton.specs.Streams.{FillsMore, MeetsEnd}
+use Rattle.ac_util.proofs.Prelude.{Bool, subst, MatchBool, arith, rules, common_steps}
+use Rattle.ac_automaton.specs.Prelude.{FillsMore, MeetsEnd}
 use Rattle.ac_automaton.proofs.Places.{match-by, refused-by}
 use Rattle.ac_automaton.proofs.StreamReplaced.{begins, ends-there, fails-at-last, fails-exchanging, fails-reading, fills, goes-on, replaces}
 use Rattle.ac_automaton.proofs.StreamBegins.{settled-begun}

@@ -1,6 +1,5 @@
-use Rattle.std.proofs.Common.{◌-◌, ◌≤◌, length}
-use Rattle.ac_automaton.specs.Util.{IsNear, Occurrence, usize_max}
-use Rattle.ac_automaton.specs.Streams.{IsSettledIn}
+use Rattle.ac_util.proofs.Prelude.{◌-◌, ◌≤◌, length}
+use Rattle.ac_automaton.specs.Prelude.{IsNear, Occurrence, usize_max, IsSettledIn}
 use Rattle.ac_automaton.proofs.StreamReplaced.{IsReplacing}
 use Rattle.ac_automaton.proofs.automaton.stream_replace.replace_stream.Given as goal
 

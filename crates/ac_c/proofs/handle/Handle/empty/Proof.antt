@@ -1,5 +1,5 @@
 -- `empty` holds null.
-use Rattle.std.proofs.Common.{◌≡◌, List, [], ◌∷◌, ◌++◌, refl, sym, subst, lit<}
+use Rattle.ac_util.proofs.Prelude.{◌≡◌, List, [], ◌∷◌, ◌++◌, refl, sym, subst, lit<}
 use mir.Val.{Val}
 use base.Logic.{SProp, ent, emp, id⊢}
 use base.Fml.{ftrue}

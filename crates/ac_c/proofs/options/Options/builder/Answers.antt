@@ -1,4 +1,4 @@
-use Rattle.std.proofs.Common.{false, None, sym, ◌∙◌, rules}
+use Rattle.ac_util.proofs.Prelude.{false, None, sym, ◌∙◌, rules}
 use Rattle.ac_search.specs.declared.MatchKind.TheVariants.{Standard}
 use Rattle.ac_search.specs.declared.StartKind.TheVariants.{Unanchored}
 use Rattle.ac_c.specs.Settings.{engines, flags, match_kinds, start_kinds}

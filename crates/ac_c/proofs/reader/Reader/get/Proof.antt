@@ -1,5 +1,5 @@
 -- `get` gives up the loan of the part for good, and has what it shares for as long.
-use Rattle.std.proofs.Common.{◌≡◌, ℕ, List, [], ◌∷◌, refl, sym, ap, ◌∙◌}
+use Rattle.ac_util.proofs.Prelude.{◌≡◌, ℕ, List, [], ◌∷◌, refl, sym, ap, ◌∙◌, ⊤}
 use seplogic.Ra.Ura.{Ura}
 use base.Fraction.{full_share}
 use mir.Syntax.{named}
@@ -7,7 +7,6 @@ use mir.Val.{Val, vptr}
 use base.Logic.{SProp, ent, sep, emp, guard_i}
 use base.Fml.{Lft, Share, Fml, ftrue, fsep, fex, flft, fobs, fres, fauth, fbor}
 use mathlib.Core.Option.{none}
-use Rattle.std.specs.Prelude.{⊤}
 use denote.Follow.{follows_so, such_by, follows_by}
 use types.Logic.{Logic, sem}
 use types.SemTy.{Body}

@@ -1,5 +1,4 @@
-use Rattle.std.proofs.Common.{rules, arith}
-use Rattle.std.proofs.lemmas.Grind.{common_steps}
+use Rattle.ac_util.proofs.Prelude.{rules, arith, common_steps}
 use Rattle.ac_engines.proofs.Numbers.{row-within, stands-step}
 use Rattle.ac_engines.proofs.dfa.DFAAutomaton.next_state.Goals as goal
 

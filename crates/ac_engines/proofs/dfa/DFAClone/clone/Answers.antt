@@ -1,4 +1,4 @@
-use Rattle.std.proofs.lemmas.List.Elements.{same_from_all_zip}
+use Rattle.ac_util.proofs.Prelude.{same_from_all_zip}
 use Rattle.ac_engines.proofs.dfa.DFAClone.clone.Goals as goal
 
 -- the table of the copy is that of the automaton

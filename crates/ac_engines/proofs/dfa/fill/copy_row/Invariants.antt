@@ -1,5 +1,4 @@
-use Rattle.std.proofs.Common.{◌≡◌, ℕ, ◌+◌, List, length}
-use Rattle.std.specs.List.{CopiedTo, SameBelow, SameFrom}
+use Rattle.ac_util.proofs.Prelude.{◌≡◌, ℕ, ◌+◌, List, length, CopiedTo, SameBelow, SameFrom}
 use Rattle.ac_engines.proofs.dfa.fill.copy_row.Given as goal
 
 -- the classes so far were copied

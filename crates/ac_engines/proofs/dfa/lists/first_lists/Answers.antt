@@ -1,5 +1,5 @@
-use Rattle.std.proofs.Common.{◌≡◌, ◌∷◌, [], ◌++◌, List, ℕ, ap, ◌∙◌, Some}
-use Rattle.ac_engines.specs.Dfa.Layouts.{row_lists}
+use Rattle.ac_util.proofs.Prelude.{◌≡◌, ◌∷◌, [], ◌++◌, List, ℕ, ap, ◌∙◌, Some}
+use Rattle.ac_engines.specs.Prelude.{row_lists}
 use Rattle.ac_engines.proofs.RowLists.{both-starts, one-start}
 use Rattle.ac_engines.proofs.dfa.lists.first_lists.Goals.{in-Both, in-Unanchored+in_ok-push-in-Unanchored}
 use Rattle.ac_engines.proofs.dfa.lists.first_lists.Goals as goal

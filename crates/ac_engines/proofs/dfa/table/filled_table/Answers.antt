@@ -1,4 +1,4 @@
-use Rattle.std.proofs.Common.{◌∙◌}
+use Rattle.ac_util.proofs.Prelude.{◌∙◌}
 use Rattle.ac_engines.proofs.dfa.table.filled_table.Goals as goal
 
 -- the table is as long as it was made

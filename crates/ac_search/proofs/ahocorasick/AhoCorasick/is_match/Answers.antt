@@ -1,4 +1,4 @@
-use Rattle.std.proofs.Common.{rules}
+use Rattle.ac_util.proofs.Prelude.{rules}
 use Rattle.ac_search.proofs.SomeMatch.{some-match}
 use Rattle.ac_search.proofs.ahocorasick.AhoCorasick.is_match.Goals as goal
 

@@ -1,4 +1,4 @@
-use Rattle.std.proofs.Common.{sym}
+use Rattle.ac_util.proofs.Prelude.{sym}
 use Rattle.ac_automaton.specs.Util.{input_of}
 use Rattle.ac_search.proofs.Served.{item-served}
 use Rattle.ac_search.proofs.ahocorasick.AhoCorasick.try_find_overlapping.Goals as goal

@@ -1,4 +1,4 @@
-use Rattle.std.proofs.Common.{length, rules}
+use Rattle.ac_util.proofs.Prelude.{length, rules}
 use Rattle.ac_util.proofs.Exchanges.{exchanged-in_order}
 use Rattle.ac_search.proofs.ahocorasick.AhoCorasick.try_replace_all_with.Goals as goal
 

@@ -1,8 +1,6 @@
-use Rattle.std.proofs.Common.{◌≡◌, None, arith, subst}
-use Rattle.std.proofs.lemmas.Grind.{common_steps}
-use Rattle.ac_automaton.specs.Util.{Built, No, start_refusal, stream_refusal}
-use Rattle.ac_automaton.specs.Prelude.{initial_stream}
-use Rattle.ac_search.specs.Prelude.{built_of}
+use Rattle.ac_util.proofs.Prelude.{◌≡◌, None, arith, subst, common_steps}
+use Rattle.ac_search.specs.Prelude.{No, start_refusal, stream_refusal, initial_stream, built_of}
+use Rattle.ac_automaton.specs.Util.{Built}
 use Rattle.ac_search.proofs.Served.{stream-served}
 use Rattle.ac_search.proofs.ahocorasick.AhoCorasick.try_stream_finder.Goals.{in-Noncontiguous+in_ok-new-in-Noncontiguous, in-Contiguous+in_ok-new-in-Contiguous, in-Dfa+in_ok-new-in-Dfa}
 use Rattle.ac_search.proofs.ahocorasick.AhoCorasick.try_stream_finder.Goals as goal

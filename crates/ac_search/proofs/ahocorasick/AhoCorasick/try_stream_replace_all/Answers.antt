@@ -1,5 +1,5 @@
-use Rattle.std.proofs.Common.{◌∙◌, ap, sym}
-use Rattle.ac_search.specs.Engines.{built_of}
+use Rattle.ac_util.proofs.Prelude.{◌∙◌, ap, sym}
+use Rattle.ac_search.specs.Prelude.{built_of}
 use Rattle.ac_search.proofs.StreamsServed.{replaced-served}
 use Rattle.ac_search.proofs.ahocorasick.AhoCorasick.try_stream_replace_all.Goals as goal
 

@@ -1,5 +1,5 @@
+use Rattle.ac_search.specs.Prelude.{HasPlace}
 use Rattle.ac_search.specs.Input.{input_of}
-use Rattle.ac_search.specs.Searchers.{HasPlace}
 use Rattle.ac_search.proofs.tests.listings.listed_by_state.Given as goal
 
 -- the state stands for a place of the listing

@@ -1,4 +1,4 @@
-use Rattle.std.proofs.Common.{rules}
+use Rattle.ac_util.proofs.Prelude.{rules}
 use Rattle.ac_util.proofs.ClassLists.{class_at-below}
 use Rattle.ac_util.proofs.alphabet.ByteClasses.get.Goals as goal
 

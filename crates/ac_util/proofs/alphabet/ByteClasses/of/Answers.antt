@@ -1,6 +1,4 @@
-use Rattle.std.proofs.Common.{length-set, get_or-set_same, get_or-set_other, arith, rules}
-use Rattle.std.proofs.lemmas.List.{get_or-replicate}
-use Rattle.std.proofs.lemmas.Grind.{common_steps}
+use Rattle.ac_util.proofs.Prelude.{length-set, get_or-set_same, get_or-set_other, arith, rules, get_or-replicate, common_steps}
 use Rattle.ac_util.proofs.ClassLemmas.{class-le, class-up, class-stays, class-zero}
 use Rattle.ac_util.proofs.ClassLists.{classes_of-AreClasses, classes_of-from_each}
 use Rattle.ac_util.proofs.alphabet.ByteClasses.of.Goals as goal

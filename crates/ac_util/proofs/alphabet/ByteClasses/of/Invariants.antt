@@ -1,5 +1,5 @@
-use Rattle.std.proofs.Common.{◌≡◌, ℕ, ◌+◌, ◌<◌, length, get_or}
-use Rattle.ac_util.specs.Classes.{class_of}
+use Rattle.ac_util.proofs.Prelude.{◌≡◌, ℕ, ◌+◌, ◌<◌, length, get_or}
+use Rattle.ac_util.specs.Prelude.{class_of}
 use Rattle.ac_util.proofs.alphabet.ByteClasses.of.Given as goal
 
 -- the classes of the bytes so far stand in the list, and the last of them is at hand

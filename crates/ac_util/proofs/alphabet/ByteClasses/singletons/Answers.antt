@@ -1,4 +1,4 @@
-use Rattle.std.proofs.Common.{rules}
+use Rattle.ac_util.proofs.Prelude.{rules}
 use Rattle.ac_util.proofs.ClassLists.{singletons-from_each}
 use Rattle.ac_util.proofs.alphabet.ByteClasses.singletons.Goals as goal
 

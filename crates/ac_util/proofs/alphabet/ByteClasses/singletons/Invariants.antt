@@ -1,4 +1,4 @@
-use Rattle.std.proofs.Common.{◌≡◌, ℕ, ◌<◌, length, get_or}
+use Rattle.ac_util.proofs.Prelude.{◌≡◌, ℕ, ◌<◌, length, get_or}
 use Rattle.ac_util.proofs.alphabet.ByteClasses.singletons.Given as goal
 
 -- the bytes so far have classes of their own

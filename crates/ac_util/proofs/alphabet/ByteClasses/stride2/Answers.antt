@@ -1,4 +1,4 @@
-use Rattle.std.proofs.Common.{rules}
+use Rattle.ac_util.proofs.Prelude.{rules}
 use Rattle.std.proofs.lemmas.Nat.{one_shl}
 use Rattle.ac_util.proofs.StrideLemmas.{stride2-is}
 use Rattle.ac_util.proofs.alphabet.ByteClasses.stride2.Goals as goal

@@ -1,4 +1,4 @@
-use Rattle.std.proofs.Common.{ℕ, ◌<◌, ◌^◌}
+use Rattle.ac_util.proofs.Prelude.{ℕ, ◌<◌, ◌^◌}
 use Rattle.ac_util.proofs.alphabet.ByteClasses.stride2.Given as goal
 
 -- the powers of two so far are below the number of classes

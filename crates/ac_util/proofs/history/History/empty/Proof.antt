@@ -11,7 +11,7 @@ use denote.Shadow.{pure_i}
 use denote.Triple.Entry.{alive}
 use denote.Triple.Walked.{says, walk_of, ends_at}
 use Rattle.std.proofs.raw_atomic.Walks.{proved}
-use Rattle.ac_util.specs.declared.history.History.{History}
+use Rattle.ac_util.specs.Prelude.{History}
 use Rattle.ac_util.specs.contracts.history.History as history
 use Rattle.ac_util.specs.contracts.history.History.empty as f
 use Rattle.ac_util.proofs.history.History.empty.Statement.{statement}

@@ -17,8 +17,8 @@ use denote.Slice.{shr_slice_vals, shr_slice_Tells}
 use denote.Triple.Entry.{alive}
 use denote.Triple.Walked.{says, stay_none_ref, stay_none_slice, Stays, walk_of, ends_at, Goes-none_ref, Goes-none_slice}
 use Rattle.std.proofs.raw_atomic.Walks.{proved}
-use Rattle.std.specs.Prelude.{◌++◌}
-use Rattle.ac_util.specs.declared.history.History.{History}
+use Rattle.ac_util.proofs.Prelude.{◌++◌}
+use Rattle.ac_util.specs.Prelude.{History}
 use Rattle.ac_util.specs.contracts.history.History as history
 use Rattle.ac_util.specs.contracts.history.History.with as f
 use Rattle.ac_util.proofs.history.History.with.Statement.{statement}

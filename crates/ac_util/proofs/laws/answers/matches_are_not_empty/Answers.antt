@@ -1,4 +1,4 @@
-use Rattle.std.proofs.Common.{arith}
+use Rattle.ac_util.proofs.Prelude.{arith}
 use Rattle.ac_util.proofs.Shortest.{none-empty}
 use Rattle.ac_util.proofs.laws.answers.matches_are_not_empty.Goals as goal
 

@@ -1,5 +1,5 @@
-use Rattle.std.proofs.Common.{false, ap, rules}
-use Rattle.ac_util.specs.Occurrence.{plain}
+use Rattle.ac_util.proofs.Prelude.{false, ap, rules}
+use Rattle.ac_util.specs.Prelude.{plain}
 use Rattle.ac_util.proofs.SamenessLemmas.{IsSame-length, IsSame-tested, IsSame-from_tests, IsSame-equal}
 use Rattle.ac_util.proofs.laws.answers.sameness_is_by_letter.Goals as goal
 

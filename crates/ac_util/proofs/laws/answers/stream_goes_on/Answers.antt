@@ -1,6 +1,4 @@
-use Rattle.std.proofs.Common.{arith}
-use Rattle.std.proofs.Math.Seq.{take-append_seam}
-use Rattle.std.proofs.lemmas.Grind.{common_steps}
+use Rattle.ac_util.proofs.Prelude.{arith, take-append_seam, common_steps}
 use Rattle.ac_util.specs.Prelude.{stream_result}
 use Rattle.ac_util.proofs.GoesOn.{stream_result-begins}
 use Rattle.ac_util.proofs.laws.answers.stream_goes_on.Goals as goal

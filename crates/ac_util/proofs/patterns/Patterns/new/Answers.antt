@@ -1,7 +1,4 @@
-use Rattle.std.proofs.Common.{◌<◌, ◌++◌, ◌∷◌, [], List, ℕ, length, map, take, ap, sym, ◌∙◌, get_or, arith}
-use Rattle.std.specs.Borrow.{Bor}
-use Rattle.std.proofs.lemmas.List.{length-map, get_or-map, take_more}
-use Rattle.std.proofs.lemmas.Grind.{common_steps}
+use Rattle.ac_util.proofs.Prelude.{◌<◌, ◌++◌, ◌∷◌, [], List, ℕ, length, map, take, ap, sym, ◌∙◌, get_or, arith, Bor, length-map, get_or-map, take_more, common_steps}
 use Rattle.ac_util.proofs.LimitLemmas.{limits-from_refusal, not_refused}
 use Rattle.ac_util.proofs.patterns.Patterns.new.Goals as goal
 

@@ -1,4 +1,4 @@
-use Rattle.std.proofs.Common.{◌≡◌, map, take}
+use Rattle.ac_util.proofs.Prelude.{◌≡◌, map, take}
 use Rattle.ac_util.proofs.patterns.Patterns.new.Given as goal
 
 -- what was copied is the patterns so far

@@ -1,4 +1,4 @@
-use Rattle.std.proofs.Common.{rules}
+use Rattle.ac_util.proofs.Prelude.{rules}
 use Rattle.ac_util.proofs.PiecesLemmas.{bounds-rise, piece-at}
 use Rattle.ac_util.proofs.patterns.pieces.piece.Goals as goal
 

@@ -1,4 +1,4 @@
-use Rattle.std.proofs.Common.{rules}
+use Rattle.ac_util.proofs.Prelude.{rules}
 use Rattle.ac_util.proofs.PlainReplaced.{walk-IsReplaceable, walk-EndsBy}
 use Rattle.ac_util.proofs.plain.exchange.replace_walk.Goals as goal
 

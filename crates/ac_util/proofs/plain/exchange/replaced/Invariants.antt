@@ -1,4 +1,4 @@
-use Rattle.std.proofs.Common.{◌≡◌, ◌++◌, ◌≤◌, drop, length}
+use Rattle.ac_util.proofs.Prelude.{◌≡◌, ◌++◌, ◌≤◌, drop, length}
 use Rattle.ac_util.specs.Prelude.{bytes_of, replaced, replaced_from}
 use Rattle.ac_util.proofs.PlainReplaced.{StartsFrom}
 use Rattle.ac_util.proofs.plain.exchange.replaced.Given as goal

@@ -1,6 +1,4 @@
-use Rattle.std.proofs.Common.{◌∙◌, true, false, refl, sym}
-use Rattle.std.proofs.lemmas.Bool.{false≢true}
-use Rattle.std.proofs.lemmas.List.{append-nil}
+use Rattle.ac_util.proofs.Prelude.{◌∙◌, true, false, refl, sym, false≢true, append-nil}
 use Rattle.ac_util.proofs.PlainListing.{number_added}
 use Rattle.ac_util.proofs.plain.list.add_at.Goals as goal
 use Rattle.ac_util.proofs.plain.list.add_at.Goals.{then-occurs+in_ok-push, else-occurs}

@@ -1,4 +1,4 @@
-use Rattle.std.proofs.Common.{◌≡◌, ◌++◌}
+use Rattle.ac_util.proofs.Prelude.{◌≡◌, ◌++◌}
 use Rattle.ac_util.proofs.PlainListing.{occurring, first_numbers}
 use Rattle.ac_util.proofs.plain.list.add_at.Given as goal
 

@@ -1,4 +1,4 @@
-use Rattle.std.proofs.Common.{◌+◌, ◌-◌, arith, ap}
+use Rattle.ac_util.proofs.Prelude.{◌+◌, ◌-◌, arith, ap}
 use Rattle.ac_util.specs.Prelude.{places_at, Search}
 use Rattle.ac_util.proofs.PlainListing.{added_more}
 use Rattle.ac_util.proofs.plain.list.add_ending_at.Goals as goal

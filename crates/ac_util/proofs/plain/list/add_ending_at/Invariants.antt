@@ -1,6 +1,5 @@
-use Rattle.std.proofs.Common.{◌≡◌, ◌++◌, ◌+◌, ◌-◌, ◌≤◌, flat_map}
-use Rattle.std.specs.List.{range_with_len}
-use Rattle.ac_util.specs.Listing.{places_at}
+use Rattle.ac_util.proofs.Prelude.{◌≡◌, ◌++◌, ◌+◌, ◌-◌, ◌≤◌, flat_map, range_with_len}
+use Rattle.ac_util.specs.Prelude.{places_at}
 use Rattle.ac_util.proofs.PlainListing.{occurring}
 use Rattle.ac_util.proofs.plain.list.add_ending_at.Given as goal
 

@@ -1,4 +1,4 @@
-use Rattle.std.proofs.Common.{◌+◌, ◌-◌, [], arith, ap, rules}
+use Rattle.ac_util.proofs.Prelude.{◌+◌, ◌-◌, [], arith, ap, rules}
 use Rattle.ac_util.specs.Prelude.{places_ending_at, Search}
 use Rattle.ac_util.proofs.PlainListing.{added_more, all-from_ends}
 use Rattle.ac_util.proofs.plain.list.listing.Goals as goal

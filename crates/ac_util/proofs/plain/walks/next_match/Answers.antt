@@ -1,4 +1,4 @@
-use Rattle.std.proofs.Common.{rules}
+use Rattle.ac_util.proofs.Prelude.{rules}
 use Rattle.ac_util.proofs.PlainWalk.{pick-low}
 use Rattle.ac_util.proofs.plain.walks.next_match.Goals as goal
 

@@ -1,5 +1,4 @@
-use Rattle.std.proofs.Common.{◌≡◌, ◌++◌, ◌∙◌, ℕ, subst, Some, Option, rules, arith}
-use Rattle.std.proofs.lemmas.Grind.{common_steps}
+use Rattle.ac_util.proofs.Prelude.{◌≡◌, ◌++◌, ◌∙◌, ℕ, subst, Some, Option, rules, arith, common_steps}
 use Rattle.ac_util.specs.Prelude.{from, MatchKind, next_match, Occurrence, Search, walk}
 use Rattle.ac_util.proofs.PlainWalk.{walk_from, next-EndsWithin, room-falls, taken, begun}
 use Rattle.ac_util.proofs.plain.walks.walk.Goals as goal

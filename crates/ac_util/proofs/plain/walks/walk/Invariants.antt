@@ -1,5 +1,5 @@
-use Rattle.std.proofs.Common.{◌≡◌, ◌++◌}
-use Rattle.ac_util.specs.Walk.{walk}
+use Rattle.ac_util.proofs.Prelude.{◌≡◌, ◌++◌}
+use Rattle.ac_util.specs.Prelude.{walk}
 use Rattle.ac_util.proofs.PlainWalk.{walk_from, room_after, EndsWithin}
 use Rattle.ac_util.proofs.plain.walks.walk.Given as goal
 

@@ -1,4 +1,4 @@
-use Rattle.std.proofs.Common.{rules}
+use Rattle.ac_util.proofs.Prelude.{rules}
 use Rattle.ac_util.proofs.Skips.{first_in_range}
 use Rattle.ac_util.proofs.prefilter.FirstBytes.find_in.Goals as goal
 

@@ -1,5 +1,4 @@
-use Rattle.std.proofs.lemmas.Grind.{common_steps}
-use Rattle.std.proofs.Common.{ℕ, false, length-set, take, get_or, inl, inr, ap, sym, ◌∙◌, arith, rules}
+use Rattle.ac_util.proofs.Prelude.{common_steps, ℕ, false, length-set, take, get_or, inl, inr, ap, sym, ◌∙◌, arith, rules}
 use Rattle.ac_util.proofs.Marks.{filter-fails, filter-passes, first_ones, marked_more_than_noted, noted_all, take_noted}
 use Rattle.ac_util.proofs.prefilter.FirstBytes.of.Goals as goal
 use Rattle.ac_util.proofs.prefilter.FirstBytes.of.Goals.{then-marks-plain_byte+else-count-eq-MOST_BYTES, else-marks-plain_byte}

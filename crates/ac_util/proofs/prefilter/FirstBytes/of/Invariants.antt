@@ -1,6 +1,5 @@
-use Rattle.std.proofs.Common.{◌≡◌, ◌≤◌, length, take, filter}
-use Rattle.std.specs.List.{range_with_len}
-use Rattle.ac_util.specs.Prefilters.{is_marked}
+use Rattle.ac_util.proofs.Prelude.{◌≡◌, ◌≤◌, length, take, filter, range_with_len}
+use Rattle.ac_util.specs.Prelude.{is_marked}
 use Rattle.ac_util.proofs.prefilter.FirstBytes.of.Given as goal
 
 -- the marked ones of the bytes so far are noted, which are at most three

@@ -1,4 +1,4 @@
-use Rattle.std.proofs.Common.{rules}
+use Rattle.ac_util.proofs.Prelude.{rules}
 use Rattle.ac_util.proofs.Skips.{needle_found, needle_match}
 use Rattle.ac_util.proofs.prefilter.Needle.find_in.Goals as goal
 

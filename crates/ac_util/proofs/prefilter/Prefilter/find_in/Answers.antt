@@ -1,4 +1,4 @@
-use Rattle.std.proofs.Common.{rules}
+use Rattle.ac_util.proofs.Prelude.{rules}
 use Rattle.ac_util.proofs.Skips.{promised, says-nothing}
 use Rattle.ac_util.proofs.prefilter.Prefilter.find_in.Goals as goal
 

@@ -1,6 +1,4 @@
-use Rattle.std.proofs.Common.{◌≡◌, ◌∙◌, false, true, length, inl, inr, arith, rules}
-use Rattle.std.specs.List.{list_any}
-use Rattle.std.proofs.lemmas.Grind.{common_steps}
+use Rattle.ac_util.proofs.Prelude.{◌≡◌, ◌∙◌, false, true, length, inl, inr, arith, rules, list_any, common_steps}
 use Rattle.ac_util.specs.Prelude.{is_empty}
 use Rattle.ac_util.proofs.Marks.{first_few, marked-BeginWith, marked-first_bytes, only_one, skip_for-bytes, skip_for-many_bytes, skip_for-needle, too_many}
 use Rattle.ac_util.proofs.prefilter.Prefilter.of.Goals as goal

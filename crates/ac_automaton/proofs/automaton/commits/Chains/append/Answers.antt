@@ -1,6 +1,5 @@
-use Rattle.std.proofs.Common.{◌≡◌, List, sym, ◌∙◌, ap, subst, arith, Some, slice_get}
-use Rattle.ac_automaton.specs.declared.automaton.commits.ChainMatch.{ChainMatch}
-use Rattle.ac_automaton.specs.Commits.{chain_at, GrowsBy}
+use Rattle.ac_util.proofs.Prelude.{◌≡◌, List, sym, ◌∙◌, ap, subst, arith, Some, slice_get}
+use Rattle.ac_automaton.specs.Prelude.{ChainMatch, chain_at, GrowsBy}
 use Rattle.ac_automaton.proofs.Chains.{chain-same, grows-more, take-shifted}
 use Rattle.ac_automaton.proofs.automaton.commits.Chains.append.Goals as goal
 

@@ -1,5 +1,5 @@
-use Rattle.std.proofs.Common.{◌≤◌, map, take}
-use Rattle.ac_automaton.specs.Commits.{chain_at, GrowsBy, shifted}
+use Rattle.ac_util.proofs.Prelude.{◌≤◌, map, take}
+use Rattle.ac_automaton.specs.Prelude.{chain_at, GrowsBy, shifted}
 use Rattle.ac_automaton.proofs.automaton.commits.Chains.append.Given as goal
 
 -- the first matches of the other chain have come

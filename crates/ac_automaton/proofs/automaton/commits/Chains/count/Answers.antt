@@ -1,4 +1,4 @@
-use Rattle.std.proofs.Common.{length, ap, sym}
+use Rattle.ac_util.proofs.Prelude.{length, ap, sym}
 use Rattle.ac_automaton.proofs.Chains.{chain-none, IsLast, link-read}
 use Rattle.ac_automaton.proofs.automaton.commits.Chains.count.Given.{Over}
 use Rattle.ac_automaton.proofs.automaton.commits.Chains.count.Goals as goal

@@ -1,6 +1,5 @@
-use Rattle.std.proofs.Common.{◌≡◌, ℕ, ◌-◌, ◌<◌, List, [], ◌∷◌, length, length-append, refl, ap, sym, ◌∙◌, subst, arith, Some, slice_get}
-use Rattle.std.proofs.lemmas.Option.{slice_get_past}
-use Rattle.ac_automaton.specs.Commits.{chain_at, linked_match}
+use Rattle.ac_util.proofs.Prelude.{◌≡◌, ℕ, ◌-◌, ◌<◌, List, [], ◌∷◌, length, length-append, refl, ap, sym, ◌∙◌, subst, arith, Some, slice_get, slice_get_past}
+use Rattle.ac_automaton.specs.Prelude.{chain_at, linked_match}
 use Rattle.ac_automaton.proofs.Chains.{chain-none, get-front, get-last, IsLast, link-read}
 use Rattle.ac_automaton.proofs.automaton.commits.Chains.get.Given.{Over}
 use Rattle.ac_automaton.proofs.automaton.commits.Chains.get.Goals as goal

@@ -1,5 +1,5 @@
-use Rattle.std.proofs.Common.{◌≡◌, ◌≤◌, slice_get}
-use Rattle.ac_automaton.specs.Commits.{chain_at}
+use Rattle.ac_util.proofs.Prelude.{◌≡◌, ◌≤◌, slice_get}
+use Rattle.ac_automaton.specs.Prelude.{chain_at}
 use Rattle.ac_automaton.proofs.automaton.commits.Chains.get.Given as goal
 
 -- the match is that of the chain that was come to

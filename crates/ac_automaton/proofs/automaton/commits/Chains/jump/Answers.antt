@@ -1,4 +1,4 @@
-use Rattle.std.proofs.Common.{arith}
+use Rattle.ac_util.proofs.Prelude.{arith}
 use Rattle.ac_automaton.proofs.Chains.{IsLast, link-read}
 use Rattle.ac_automaton.proofs.automaton.commits.Chains.jump.Given.{Over}
 use Rattle.ac_automaton.proofs.automaton.commits.Chains.jump.Goals as goal

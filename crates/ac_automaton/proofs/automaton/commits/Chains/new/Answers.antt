@@ -1,5 +1,5 @@
-use Rattle.std.proofs.Common.{ap, sym, ◌∙◌, subst}
-use Rattle.ac_automaton.specs.Commits.{AreLinks, chains_of}
+use Rattle.ac_util.proofs.Prelude.{ap, sym, ◌∙◌, subst}
+use Rattle.ac_automaton.specs.Prelude.{AreLinks, chains_of}
 use Rattle.ac_automaton.proofs.Chains.{no-chains, no-links}
 use Rattle.ac_automaton.proofs.automaton.commits.Chains.new.Goals as goal
 

@@ -1,7 +1,5 @@
-use Rattle.std.proofs.Common.{◌≡◌, ℕ, ◌+◌, List, [], ◌∷◌, length, length-append, ap, sym, ◌∙◌, subst, arith}
-use Rattle.ac_automaton.specs.declared.automaton.commits.ChainMatch.{ChainMatch}
-use Rattle.ac_automaton.specs.declared.automaton.commits.Link.{Link}
-use Rattle.ac_automaton.specs.Commits.{AreLinks, chains_of, GrowsBy, linked_match}
+use Rattle.ac_util.proofs.Prelude.{◌≡◌, ℕ, ◌+◌, List, [], ◌∷◌, length, length-append, ap, sym, ◌∙◌, subst, arith}
+use Rattle.ac_automaton.specs.Prelude.{ChainMatch, Link, AreLinks, chains_of, GrowsBy, linked_match}
 use Rattle.ac_automaton.proofs.Chains.{chain-added, IsAdded, links-added}
 use Rattle.ac_automaton.proofs.automaton.commits.Chains.push.Given.{Over}
 use Rattle.ac_automaton.proofs.automaton.commits.Chains.push.Goals as goal

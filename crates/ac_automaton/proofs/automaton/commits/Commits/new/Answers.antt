@@ -1,6 +1,6 @@
-use Rattle.std.proofs.Common.{rules}
+use Rattle.ac_util.proofs.Prelude.{rules}
+use Rattle.ac_automaton.specs.Prelude.{Commit}
 use Rattle.std.proofs.lemmas.List.Sorted.{IsNonDecreasingBy-from_sort_by_key}
-use Rattle.ac_automaton.specs.declared.automaton.commits.Commit.{Commit}
 use Rattle.ac_automaton.proofs.automaton.commits.Commits.new.Goals as goal
 
 pub invariant_of-result : goal.invariant_of-result

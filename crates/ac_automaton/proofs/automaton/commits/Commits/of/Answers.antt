@@ -1,7 +1,6 @@
-use Rattle.std.proofs.Common.{◌≡◌, ◌<◌, List, length, ap, sym, ◌∙◌, subst, get_or, Contains, rules}
+use Rattle.ac_util.proofs.Prelude.{◌≡◌, ◌<◌, List, length, ap, sym, ◌∙◌, subst, get_or, Contains, rules}
+use Rattle.ac_automaton.specs.Prelude.{Commit, CommitsView}
 use Rattle.std.proofs.lemmas.Fn.{always_returns_same}
-use Rattle.ac_automaton.specs.declared.automaton.commits.Commit.{Commit}
-use Rattle.ac_automaton.specs.Commits.{CommitsView}
 use Rattle.ac_automaton.proofs.CommitSearch.{found-none, found-state}
 use Rattle.ac_automaton.proofs.automaton.commits.Commits.of.Goals as goal
 

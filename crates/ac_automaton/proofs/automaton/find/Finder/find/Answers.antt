@@ -1,8 +1,5 @@
-use Rattle.std.proofs.Common.{◌≡◌, ◌⊎◌, ℕ, refl, subst, sym, ◌∙◌, arith}
-use Rattle.ac_util.specs.declared.search.Anchored.{Anchored}
-use Rattle.ac_automaton.specs.Util.{No}
-use Rattle.ac_automaton.specs.Prelude.{FindsIn, Finding, finding_of}
-use Rattle.ac_automaton.specs.Scans.{tape_with}
+use Rattle.ac_util.proofs.Prelude.{◌≡◌, ◌⊎◌, ℕ, refl, subst, sym, ◌∙◌, arith}
+use Rattle.ac_automaton.specs.Prelude.{Anchored, No, FindsIn, Finding, finding_of, tape_with}
 use Rattle.ac_automaton.proofs.FindGives.{finds-pick, free-some, free-unanchored, none-empty}
 use Rattle.ac_automaton.proofs.FindLoop.{searched-nothing}
 use Rattle.ac_automaton.proofs.automaton.find.Finder.find.Goals as goal

@@ -1,7 +1,5 @@
-use Rattle.std.proofs.Common.{◌≡◌, ◌⊎◌, ℕ, true, refl, subst, sym, arith}
-use Rattle.ac_automaton.specs.Prelude.{FindsIn, Finding, scan_of, ScannerView}
-use Rattle.ac_automaton.specs.Reads.{Advances, at}
-use Rattle.ac_automaton.specs.Scans.{tape_with}
+use Rattle.ac_util.proofs.Prelude.{◌≡◌, ◌⊎◌, ℕ, true, refl, subst, sym, arith}
+use Rattle.ac_automaton.specs.Prelude.{FindsIn, Finding, scan_of, ScannerView, Advances, at, tape_with}
 use Rattle.ac_automaton.proofs.ReadAhead.{advances, may-read}
 use Rattle.ac_automaton.proofs.FindPicks.{finds-in, finds-on, MayFind, may-find-first, may-read-on, picks-start, picks-then, stands, stands-first, stands-then}
 use Rattle.ac_automaton.proofs.automaton.find.Finder.find_front.Given.{Over}

@@ -1,4 +1,4 @@
-use Rattle.std.proofs.Common.{◌-◌}
+use Rattle.ac_util.proofs.Prelude.{◌-◌}
 use Rattle.ac_automaton.specs.Prelude.{scanner}
 use Rattle.ac_automaton.proofs.FindPicks.{PicksOn}
 use Rattle.ac_automaton.proofs.automaton.find.Finder.find_front.Given as goal

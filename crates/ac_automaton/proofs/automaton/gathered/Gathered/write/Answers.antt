@@ -1,5 +1,4 @@
-use Rattle.std.proofs.Common.{arith}
-use Rattle.std.proofs.lemmas.Grind.{common_steps}
+use Rattle.ac_util.proofs.Prelude.{arith, common_steps}
 use Rattle.ac_automaton.proofs.Gathering.{written-through}
 use Rattle.ac_automaton.proofs.automaton.gathered.Gathered.write.Goals as goal
 

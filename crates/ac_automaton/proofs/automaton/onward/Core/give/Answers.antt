@@ -1,4 +1,4 @@
-use Rattle.ac_automaton.specs.Util.{No}
+use Rattle.ac_automaton.specs.Prelude.{No}
 use Rattle.ac_automaton.proofs.OnwardGoes.{given-fits}
 use Rattle.ac_automaton.proofs.automaton.onward.Core.give.Goals as goal
 

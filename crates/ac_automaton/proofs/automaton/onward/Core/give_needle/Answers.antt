@@ -1,7 +1,5 @@
-use Rattle.std.proofs.Common.{subst, None}
-use Rattle.ac_automaton.specs.Cores.{point_of, scan_by, spot}
-use Rattle.ac_automaton.specs.Prelude.{Scanner, scanner}
-use Rattle.ac_automaton.specs.Reads.{hand_of, HasReadOn, point, ReadsToStop}
+use Rattle.ac_util.proofs.Prelude.{subst, None}
+use Rattle.ac_automaton.specs.Prelude.{point_of, scan_by, spot, Scanner, scanner, hand_of, HasReadOn, point, ReadsToStop}
 use Rattle.ac_automaton.proofs.OnwardGoes.{fits-on, stops-read}
 use Rattle.ac_automaton.proofs.automaton.onward.Core.give_needle.Given.{Over}
 use Rattle.ac_automaton.proofs.automaton.onward.Core.give_needle.Goals.{After-byte_of-here}

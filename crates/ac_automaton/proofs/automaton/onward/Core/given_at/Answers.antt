@@ -1,6 +1,5 @@
-use Rattle.std.proofs.Common.{ℕ, Some, sym, subst, ◌∙◌}
-use Rattle.std.proofs.lemmas.Bool.{false≢true}
-use Rattle.ac_automaton.specs.Util.{No}
+use Rattle.ac_util.proofs.Prelude.{ℕ, Some, sym, subst, ◌∙◌, false≢true}
+use Rattle.ac_automaton.specs.Prelude.{No}
 use Rattle.ac_automaton.proofs.Heads.{nil-from_not}
 use Rattle.ac_automaton.proofs.OnwardGives.{first-of, given-commit, given-match, gives-at, none-of}
 use Rattle.ac_automaton.proofs.automaton.onward.Core.given_at.Goals as goal

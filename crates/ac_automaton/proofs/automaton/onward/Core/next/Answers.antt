@@ -1,9 +1,6 @@
-use Rattle.std.proofs.Common.{◌≡◌, ◌∙◌, ℕ, true, inl, inr, refl, sym, List, [], subst, None, Option, Some}
+use Rattle.ac_util.proofs.Prelude.{◌≡◌, ◌∙◌, ℕ, true, inl, inr, refl, sym, List, [], subst, None, Option, Some, false≢true}
+use Rattle.ac_automaton.specs.Prelude.{No, pending, TakesKnown, ChainMatch}
 use Rattle.std.specs.Option.{is_none}
-use Rattle.std.proofs.lemmas.Bool.{false≢true}
-use Rattle.ac_automaton.specs.Util.{No}
-use Rattle.ac_automaton.specs.Cores.{pending, TakesKnown}
-use Rattle.ac_automaton.specs.declared.automaton.commits.ChainMatch.{ChainMatch}
 use Rattle.ac_automaton.proofs.OnwardGoes.{fits-on, reads-next}
 use Rattle.ac_automaton.proofs.automaton.onward.Core.next.Goals as goal
 

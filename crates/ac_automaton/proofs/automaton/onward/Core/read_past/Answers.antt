@@ -1,7 +1,5 @@
-use Rattle.std.proofs.Common.{Bool, None, refl, subst, sym}
-use Rattle.ac_automaton.specs.Util.{No}
-use Rattle.ac_automaton.specs.Prelude.{scan_of, Scanner, scanner}
-use Rattle.ac_automaton.specs.Reads.{hand_of, point, ReadsToStop}
+use Rattle.ac_util.proofs.Prelude.{Bool, None, refl, subst, sym}
+use Rattle.ac_automaton.specs.Prelude.{No, scan_of, Scanner, scanner, hand_of, point, ReadsToStop}
 use Rattle.ac_automaton.proofs.OnwardGoes.{stops-read}
 use Rattle.ac_automaton.proofs.automaton.onward.Core.read_past.Goals as goal
 

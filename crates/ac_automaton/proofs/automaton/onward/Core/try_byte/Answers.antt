@@ -1,9 +1,5 @@
-use Rattle.std.proofs.Common.{◌≡◌, ◌⊎◌, ℕ, Option, refl, sym, subst, ◌∙◌}
-use Rattle.std.proofs.lemmas.Bool.{false≢true}
-use Rattle.ac_automaton.specs.Util.{No}
-use Rattle.ac_automaton.specs.Reads.{point, ReadsOn, Tries}
-use Rattle.ac_automaton.specs.Scans.{work_of}
-use Rattle.ac_automaton.specs.Cores.{scan_by}
+use Rattle.ac_util.proofs.Prelude.{◌≡◌, ◌⊎◌, ℕ, Option, refl, sym, subst, ◌∙◌, false≢true}
+use Rattle.ac_automaton.specs.Prelude.{No, point, ReadsOn, Tries, work_of, scan_by}
 use Rattle.ac_automaton.proofs.ReadingOn.{reads-nothing}
 use Rattle.ac_automaton.proofs.TriedBytes.{hand-before, reads-byte, stops-byte, tries-hand}
 use Rattle.ac_automaton.proofs.automaton.onward.Core.try_byte.Given.{Over}

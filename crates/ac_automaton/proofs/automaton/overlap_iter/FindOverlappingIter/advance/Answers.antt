@@ -1,5 +1,4 @@
-use Rattle.std.proofs.Common.{◌≡◌, ap, sym, subst, ◌∙◌, List, ℕ, Option, Some, arith, rules}
-use Rattle.std.proofs.lemmas.Grind.{common_steps}
+use Rattle.ac_util.proofs.Prelude.{◌≡◌, ap, sym, subst, ◌∙◌, List, ℕ, Option, Some, arith, rules, common_steps}
 use Rattle.ac_automaton.specs.Prelude.{in_memory, IsListing, ListsNext, Overlapping, overlapping_by, Reached, Scan, scan_of, work_of}
 use Rattle.ac_automaton.proofs.Overlapping.{lists-next, lists-past_end, listing-goes_on}
 use Rattle.ac_automaton.proofs.automaton.overlap_iter.FindOverlappingIter.advance.Given.{Over}

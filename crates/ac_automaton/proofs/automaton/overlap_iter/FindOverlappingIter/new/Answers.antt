@@ -1,7 +1,5 @@
-use Rattle.std.proofs.Common.{true, ◌≡◌, ℕ, ◌≤◌, List, false, ap, refl, sym, subst, ◌∙◌, Option, Some, rules, arith}
-use Rattle.std.proofs.lemmas.Grind.{common_steps}
-use Rattle.ac_automaton.specs.Util.{input_of, No, Node, Span}
-use Rattle.ac_automaton.specs.Prelude.{given_by, in_memory, IsListing, Lists, nothing_done, Reached, Scan, scan_of, search_through}
+use Rattle.ac_util.proofs.Prelude.{true, ◌≡◌, ℕ, ◌≤◌, List, false, ap, refl, sym, subst, ◌∙◌, Option, Some, rules, arith, common_steps}
+use Rattle.ac_automaton.specs.Prelude.{input_of, No, Node, Span, given_by, in_memory, IsListing, Lists, nothing_done, Reached, Scan, scan_of, search_through}
 use Rattle.ac_automaton.proofs.ListLoop.{arrived}
 use Rattle.ac_automaton.proofs.Overlapping.{goes_on-start, iterator-served, listing-starts}
 use Rattle.ac_automaton.proofs.automaton.overlap_iter.FindOverlappingIter.new.Given.{Over}

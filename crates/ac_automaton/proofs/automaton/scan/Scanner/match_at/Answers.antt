@@ -1,5 +1,4 @@
-use Rattle.std.proofs.Common.{◌≡◌, ℕ, Some, slice_get, rules}
-use Rattle.std.proofs.lemmas.Bool.{false≢true}
+use Rattle.ac_util.proofs.Prelude.{◌≡◌, ℕ, Some, slice_get, rules, false≢true}
 use Rattle.ac_automaton.proofs.Heads.{HeadFits, found-due, found-none, found-not_due, head-fits, nil-from_not}
 use Rattle.ac_automaton.proofs.automaton.scan.Scanner.match_at.Given.{Over}
 use Rattle.ac_automaton.proofs.automaton.scan.Scanner.match_at.Goals.{After-is_match}

@@ -1,4 +1,4 @@
-use Rattle.std.proofs.Common.{◌-◌}
+use Rattle.ac_util.proofs.Prelude.{◌-◌}
 use Rattle.ac_automaton.specs.Prelude.{scanner}
 use Rattle.ac_automaton.proofs.ListSteps.{HasListedOn}
 use Rattle.ac_automaton.proofs.automaton.scan.Scanner.next_item.Given as goal

@@ -1,4 +1,4 @@
-use Rattle.std.proofs.Common.{◌≡◌, ◌⊎◌, ℕ, sym, subst}
+use Rattle.ac_util.proofs.Prelude.{◌≡◌, ◌⊎◌, ℕ, sym, subst}
 use Rattle.ac_automaton.proofs.ReadAhead.{advances, may-read}
 use Rattle.ac_automaton.proofs.automaton.scan.Scanner.read_ahead.Goals as goal
 

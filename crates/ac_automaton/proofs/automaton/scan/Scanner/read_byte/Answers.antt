@@ -1,6 +1,5 @@
-use Rattle.std.proofs.Common.{ap, refl, ◌∙◌, arith}
-use Rattle.ac_util.specs.Input.{Taped}
-use Rattle.ac_automaton.specs.Util.{Counts}
+use Rattle.ac_util.proofs.Prelude.{ap, refl, ◌∙◌, arith}
+use Rattle.ac_automaton.specs.Prelude.{Taped, Counts}
 use Rattle.ac_automaton.proofs.automaton.scan.Scanner.read_byte.Goals as goal
 
 pub returns-clause-bytes : goal.returns-clause-bytes

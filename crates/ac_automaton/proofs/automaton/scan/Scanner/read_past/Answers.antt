@@ -1,8 +1,5 @@
-use Rattle.std.proofs.Common.{◌≡◌, ◌⊎◌, ℕ, None, inl, refl, sym, subst, ◌∙◌}
-use Rattle.std.proofs.lemmas.Bool.{false≢true}
-use Rattle.ac_automaton.specs.Util.{Node}
-use Rattle.ac_automaton.specs.Prelude.{Lists, Scan, scanner}
-use Rattle.ac_automaton.specs.Reads.{MayRead, point}
+use Rattle.ac_util.proofs.Prelude.{◌≡◌, ◌⊎◌, ℕ, None, inl, refl, sym, subst, ◌∙◌, false≢true}
+use Rattle.ac_automaton.specs.Prelude.{Node, Lists, Scan, scanner, MayRead, point}
 use Rattle.ac_automaton.proofs.ReadingOn.{may-go-on, reading-first, reading-piece, stops-end, stops-piece}
 use Rattle.ac_automaton.proofs.TriedBytes.{piece-byte, piece-dead}
 use Rattle.ac_automaton.proofs.automaton.scan.Scanner.read_past.Given.{Over}

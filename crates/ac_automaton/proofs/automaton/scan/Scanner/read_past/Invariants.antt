@@ -1,6 +1,5 @@
-use Rattle.std.proofs.Common.{◌-◌, None}
-use Rattle.ac_automaton.specs.Prelude.{scanner}
-use Rattle.ac_automaton.specs.Reads.{IsReading, point}
+use Rattle.ac_util.proofs.Prelude.{◌-◌, None}
+use Rattle.ac_automaton.specs.Prelude.{scanner, IsReading, point}
 use Rattle.ac_automaton.proofs.automaton.scan.Scanner.read_past.Given as goal
 
 abbrev pub invariant-loop-at : goal.invariant-loop-at

@@ -1,4 +1,4 @@
-use Rattle.std.proofs.Common.{arith}
+use Rattle.ac_util.proofs.Prelude.{arith}
 use Rattle.ac_automaton.proofs.ReadingOn.{reads-within}
 use Rattle.ac_automaton.proofs.automaton.scan.Scanner.read_rest.Goals as goal
 

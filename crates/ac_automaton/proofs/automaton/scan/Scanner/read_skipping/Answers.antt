@@ -1,6 +1,5 @@
-use Rattle.std.proofs.Common.{◌∙◌, ap, inl, inr, refl, sym, arith}
-use Rattle.std.proofs.lemmas.Bool.{false≢true}
-use Rattle.ac_automaton.specs.Reads.{hand_of}
+use Rattle.ac_util.proofs.Prelude.{◌∙◌, ap, inl, inr, refl, sym, arith, false≢true}
+use Rattle.ac_automaton.specs.Prelude.{hand_of}
 use Rattle.ac_automaton.proofs.ReadingOn.{may-go-on, none-dead, piece-then, reading-first, reading-piece, some-dead, stops-piece, stops-then}
 use Rattle.ac_automaton.proofs.automaton.scan.Scanner.read_skipping.Goals.{then-is_some-via-then-is_some, then-is_some-via-else-is_some+then-is_to_stop}
 use Rattle.ac_automaton.proofs.automaton.scan.Scanner.read_skipping.Goals as goal

@@ -1,7 +1,5 @@
-use Rattle.std.proofs.Common.{◌-◌, None}
-use Rattle.ac_automaton.specs.Prelude.{scanner}
-use Rattle.ac_automaton.specs.Reads.{point}
-use Rattle.ac_automaton.specs.Reads.{IsReading}
+use Rattle.ac_util.proofs.Prelude.{◌-◌, None}
+use Rattle.ac_automaton.specs.Prelude.{scanner, point, IsReading}
 use Rattle.ac_automaton.proofs.automaton.scan.Scanner.read_skipping.Given as goal
 
 abbrev pub invariant-loop-dead : goal.invariant-loop-dead

@@ -1,6 +1,5 @@
-use Rattle.std.proofs.Common.{◌∙◌, ap, inl, inr, refl, sym, arith}
-use Rattle.std.proofs.lemmas.Bool.{false≢true}
-use Rattle.ac_automaton.specs.Reads.{hand_of}
+use Rattle.ac_util.proofs.Prelude.{◌∙◌, ap, inl, inr, refl, sym, arith, false≢true}
+use Rattle.ac_automaton.specs.Prelude.{hand_of}
 use Rattle.ac_automaton.proofs.ReadingOn.{may-go-on, none-dead, reading-first, reading-piece, some-dead, stops-end, stops-piece}
 use Rattle.ac_automaton.proofs.automaton.scan.Scanner.read_to_start.Goals.{then-is_some-via-then-is_some, then-is_some-via-else-is_some+then-is_to_stop}
 use Rattle.ac_automaton.proofs.automaton.scan.Scanner.read_to_start.Goals as goal

@@ -1,7 +1,5 @@
-use Rattle.std.proofs.Common.{◌≡◌, ◌⊎◌, ◌≤◌, ◌<◌, ℕ, None, refl, sym, subst, ◌∙◌, arith}
-use Rattle.std.proofs.lemmas.Bool.{false≢true}
-use Rattle.ac_automaton.specs.Prelude.{Scan, scanner}
-use Rattle.ac_automaton.specs.Reads.{MayRead, point}
+use Rattle.ac_util.proofs.Prelude.{◌≡◌, ◌⊎◌, ◌≤◌, ◌<◌, ℕ, None, refl, sym, subst, ◌∙◌, arith, false≢true}
+use Rattle.ac_automaton.specs.Prelude.{Scan, scanner, MayRead, point}
 use Rattle.ac_automaton.proofs.TriedBytes.{piece-byte, piece-dead}
 use Rattle.ac_automaton.proofs.Skipping.{may-skipped, piece-skipped, skipped-end}
 use Rattle.ac_automaton.proofs.automaton.scan.Scanner.skip.Given.{Over}

@@ -1,7 +1,5 @@
-use Rattle.std.proofs.Common.{◌≡◌, ◌-◌, ℕ, true, ap, sym, subst, ◌∙◌, arith, Some, rules}
-use Rattle.ac_util.specs.Occurrence.{Occurrence, occurrence}
-use Rattle.ac_automaton.specs.Prelude.{in_memory, Scan, scan_of}
-use Rattle.ac_automaton.specs.Overlaps.{HasGivenItem}
+use Rattle.ac_util.proofs.Prelude.{◌≡◌, ◌-◌, ℕ, true, ap, sym, subst, ◌∙◌, arith, Some, rules}
+use Rattle.ac_automaton.specs.Prelude.{Occurrence, occurrence, in_memory, Scan, scan_of, HasGivenItem}
 use Rattle.ac_automaton.proofs.Due.{counts}
 use Rattle.ac_automaton.proofs.ListLoop.{due-short, gives-first}
 use Rattle.ac_automaton.proofs.automaton.scan.Scanner.take_due.Given.{Over}

@@ -1,4 +1,4 @@
-use Rattle.std.proofs.Common.{rules}
+use Rattle.ac_util.proofs.Prelude.{rules}
 use Rattle.ac_automaton.proofs.StreamFilling.{buffer-shows}
 use Rattle.ac_automaton.proofs.automaton.stream.StreamFinder.bytes.Goals as goal
 

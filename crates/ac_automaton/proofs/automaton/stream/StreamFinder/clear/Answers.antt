@@ -1,4 +1,4 @@
-use Rattle.std.proofs.Common.{◌∙◌, ap, length, sym, rules}
+use Rattle.ac_util.proofs.Prelude.{◌∙◌, ap, length, sym, rules}
 use Rattle.ac_automaton.specs.Prelude.{Streaming}
 use Rattle.ac_automaton.proofs.StreamMoving.{streams-cleared}
 use Rattle.ac_automaton.proofs.automaton.stream.StreamFinder.clear.Goals as goal

@@ -1,10 +1,7 @@
-use Rattle.std.proofs.Common.{◌≡◌, ◌∙◌, ◌+◌, ◌-◌, ◌≤◌, ◌≢◌, ◌++◌, ℕ, List, length, length-append, length-drop, take, drop, sym, ap, subst, arith}
-use Rattle.std.proofs.lemmas.List.{length-take-le}
+use Rattle.ac_util.proofs.Prelude.{◌≡◌, ◌∙◌, ◌+◌, ◌-◌, ◌≤◌, ◌≢◌, ◌++◌, ℕ, List, length, length-append, length-drop, take, drop, sym, ap, subst, arith, length-take-le}
+use Rattle.ac_automaton.specs.Prelude.{stream_result, Streaming, matches_so_far, Failed, Open}
 use Rattle.ac_util.proofs.Devices.{not-idle}
-use Rattle.ac_util.specs.Stream.{stream_result}
-use Rattle.ac_automaton.specs.Streams.{Streaming, matches_so_far}
 use Rattle.ac_automaton.proofs.Places.{written-whole}
-use Rattle.ac_automaton.specs.Prelude.{Failed, Open}
 use Rattle.ac_automaton.proofs.StreamFilling.{closed-as, filled-as, given-stays, streams-filled}
 use Rattle.ac_automaton.proofs.automaton.stream.StreamFinder.fill.Given.{Over}
 use Rattle.ac_automaton.proofs.automaton.stream.StreamFinder.fill.Goals.{After-read_after}

@@ -1,5 +1,4 @@
-use Rattle.std.proofs.Common.{◌-◌, ◌∙◌, ap, arith, take}
-use Rattle.std.proofs.lemmas.Grind.{common_steps}
+use Rattle.ac_util.proofs.Prelude.{◌-◌, ◌∙◌, ap, arith, take, common_steps}
 use Rattle.ac_automaton.specs.Prelude.{Streaming}
 use Rattle.ac_automaton.proofs.StreamMoving.{kept-moved, streams-moved}
 use Rattle.ac_automaton.proofs.automaton.stream.StreamFinder.move_kept.Goals as goal

@@ -1,6 +1,5 @@
-use Rattle.std.proofs.Common.{◌≡◌, ◌≢◌, ◌∙◌, true, refl, length, sym, ap, arith, not, rules}
-use Rattle.std.proofs.lemmas.Grind.{common_steps}
-use Rattle.ac_automaton.specs.Util.{buffer_len, is_leftmost, LeftmostFirst, LeftmostLongest, MatchKind, Standard}
+use Rattle.ac_util.proofs.Prelude.{◌≡◌, ◌≢◌, ◌∙◌, true, refl, length, sym, ap, arith, not, rules, common_steps}
+use Rattle.ac_automaton.specs.Prelude.{buffer_len, is_leftmost, LeftmostFirst, LeftmostLongest, MatchKind, Standard}
 use Rattle.ac_automaton.proofs.Places.{refused-by}
 use Rattle.ac_automaton.proofs.StreamBegins.{most-kept, streams-begin}
 use Rattle.ac_automaton.proofs.StreamRefusals.{not-refused, refused-empty}

@@ -1,8 +1,6 @@
-use Rattle.std.proofs.Common.{Bool, MatchBool, length-append, subst, arith, rules}
-use Rattle.std.proofs.lemmas.List.{append-nil}
-use Rattle.std.proofs.lemmas.Grind.{common_steps}
-use Rattle.ac_util.proofs.Devices.{fails-on}
+use Rattle.ac_util.proofs.Prelude.{Bool, MatchBool, length-append, subst, arith, rules, append-nil, common_steps}
 use Rattle.ac_automaton.specs.Prelude.{FillsMore, MeetsEnd}
+use Rattle.ac_util.proofs.Devices.{fails-on}
 use Rattle.ac_automaton.proofs.StreamEnds.{ended-then, gives-last}
 use Rattle.ac_automaton.proofs.StreamFilling.{failed-as}
 use Rattle.ac_automaton.proofs.automaton.stream.StreamFinder.next.Goals as goal

@@ -1,8 +1,6 @@
-use Rattle.std.proofs.Common.{◌≡◌, ◌≤◌, ◌-◌, ◌++◌, ℕ, List, length}
-use Rattle.ac_util.specs.Device.{ReadsSome}
-use Rattle.ac_automaton.specs.Prelude.{KeepsGiven, Open}
+use Rattle.ac_util.proofs.Prelude.{◌≡◌, ◌≤◌, ◌-◌, ◌++◌, ℕ, List, length}
+use Rattle.ac_automaton.specs.Prelude.{ReadsSome, KeepsGiven, Open, usize_max}
 use Rattle.ac_automaton.proofs.automaton.stream.StreamFinder.next.Given as goal
-use Rattle.ac_automaton.specs.Util.{usize_max}
 
 -- so far some bytes were read, and no match was given
 abbrev pub invariant-loop-found : goal.invariant-loop-found

@@ -1,12 +1,5 @@
-use Rattle.std.proofs.Common.{◌≡◌, ◌≢◌, ◌∙◌, List, [], length, Some, refl, take, ap, sym, subst}
-use Rattle.std.proofs.lemmas.Bool.{false≢true}
-use Rattle.std.proofs.lemmas.List.{length-take-le}
-use Rattle.ac_automaton.specs.Util.{No, Node}
-use Rattle.ac_automaton.specs.Prelude.{AutomatonView, Failed, Inside, IsStreaming, matches_of, Streaming}
-use Rattle.ac_automaton.specs.Streams.{streaming_by}
-use Rattle.ac_automaton.specs.Cores.{pending, TakesFrom}
-use Rattle.ac_automaton.specs.declared.automaton.commits.ChainMatch.{ChainMatch}
-use Rattle.ac_automaton.specs.declared.automaton.onward.ChainRest.{ChainRest}
+use Rattle.ac_util.proofs.Prelude.{◌≡◌, ◌≢◌, ◌∙◌, List, [], length, Some, refl, take, ap, sym, subst, false≢true, length-take-le}
+use Rattle.ac_automaton.specs.Prelude.{No, Node, AutomatonView, Failed, Inside, IsStreaming, matches_of, Streaming, streaming_by, pending, TakesFrom, ChainMatch, ChainRest}
 use Rattle.ac_automaton.proofs.StreamKnown.{gives-known, may-take-known, streams-known}
 use Rattle.ac_automaton.proofs.StreamNext.{core-is, holds-so, settles-so}
 use Rattle.ac_automaton.proofs.StreamReads.{gives-given, gives-nothing, HoldsBack, IsReadOn, Settles, streams-given, streams-nothing}

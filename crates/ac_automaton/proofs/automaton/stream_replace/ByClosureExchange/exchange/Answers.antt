@@ -1,4 +1,4 @@
-use Rattle.std.proofs.Common.{refl, Ok, Err}
+use Rattle.ac_util.proofs.Prelude.{refl, Ok, Err}
 use Rattle.ac_automaton.proofs.automaton.stream_replace.ByClosureExchange.exchange.Goals as goal
 
 pub returns-in-Ok-clause-calls : goal.returns-in-Ok-clause-calls

@@ -1,8 +1,5 @@
-use Rattle.std.proofs.Common.{◌≡◌, ℕ, refl, ◌≤◌, length, Option, Some, None, subst, sym, ◌∙◌, rules, arith}
-use Rattle.std.proofs.lemmas.Grind.{common_steps}
-use Rattle.ac_automaton.specs.Onward.{kept_work}
-use Rattle.ac_automaton.specs.declared.automaton.onward.Onward.{Onward}
-use Rattle.ac_automaton.specs.Prelude.{GoesOn, IsByFinds, last_after, walking_of, work_of}
+use Rattle.ac_util.proofs.Prelude.{◌≡◌, ℕ, refl, ◌≤◌, length, Option, Some, None, subst, sym, ◌∙◌, rules, arith, common_steps}
+use Rattle.ac_automaton.specs.Prelude.{kept_work, Onward, GoesOn, IsByFinds, last_after, walking_of, work_of}
 use Rattle.ac_automaton.proofs.WalkLoop.{HasGone, has-gone}
 use Rattle.ac_automaton.proofs.WalkKept.{keeps-finds, kept-finds, kept-reads, none-from}
 use Rattle.ac_automaton.proofs.automaton.walk.FindIter.advance.Given.{Over}

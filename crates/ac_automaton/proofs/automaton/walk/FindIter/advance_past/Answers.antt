@@ -1,8 +1,5 @@
-use Rattle.std.proofs.Common.{◌≡◌, ◌≤◌, ◌⊎◌, ◌∙◌, ℕ, length, arith, List, Option, Some, ap, subst, sym}
-use Rattle.ac_automaton.specs.Util.{Taped}
-use Rattle.ac_automaton.specs.Prelude.{last_after, walking_of}
-use Rattle.ac_automaton.specs.Onward.{IsKept, kept_work, reached_by}
-use Rattle.ac_automaton.specs.declared.automaton.onward.Onward.{Onward}
+use Rattle.ac_util.proofs.Prelude.{◌≡◌, ◌≤◌, ◌⊎◌, ◌∙◌, ℕ, length, arith, List, Option, Some, ap, subst, sym}
+use Rattle.ac_automaton.specs.Prelude.{Taped, last_after, walking_of, IsKept, kept_work, reached_by, Onward}
 use Rattle.ac_automaton.proofs.WalkOnce.{fresh, fresh-goes, HasGonePast, may-next}
 use Rattle.ac_automaton.proofs.WalkKept.{gone-goes, gone-past, kept-over, kept-past}
 use Rattle.ac_automaton.proofs.automaton.walk.FindIter.advance_past.Given.{Over}

@@ -1,5 +1,5 @@
-use Rattle.std.proofs.Common.{length, ap, rules, arith}
-use Rattle.ac_automaton.specs.Util.{Span, Taped}
+use Rattle.ac_util.proofs.Prelude.{length, ap, rules, arith}
+use Rattle.ac_automaton.specs.Prelude.{Span, Taped}
 use Rattle.ac_automaton.proofs.WalkBegins.{kept-first, work-first}
 use Rattle.ac_automaton.proofs.automaton.walk.FindIter.new.Goals as goal
 

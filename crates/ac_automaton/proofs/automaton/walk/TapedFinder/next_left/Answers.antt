@@ -1,5 +1,4 @@
-use Rattle.std.proofs.Common.{sym, ◌∙◌, arith, rules}
-use Rattle.std.proofs.lemmas.Grind.{common_steps}
+use Rattle.ac_util.proofs.Prelude.{sym, ◌∙◌, arith, rules, common_steps}
 use Rattle.ac_automaton.proofs.WalkLoop.{repeated}
 use Rattle.ac_automaton.proofs.automaton.walk.TapedFinder.next_left.Goals as goal
 

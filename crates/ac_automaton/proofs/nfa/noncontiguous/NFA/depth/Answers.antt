@@ -1,5 +1,5 @@
-use Rattle.std.proofs.Common.{ap, sym, ◌∙◌}
-use Rattle.ac_automaton.specs.declared.nfa.noncontiguous.state.State.{State}
+use Rattle.ac_util.proofs.Prelude.{ap, sym, ◌∙◌}
+use Rattle.ac_automaton.specs.Prelude.{State}
 use Rattle.ac_automaton.proofs.Reading.{reads}
 use Rattle.ac_automaton.proofs.nfa.noncontiguous.NFA.depth.Goals as goal
 

@@ -1,6 +1,5 @@
-use Rattle.std.proofs.Common.{◌∷◌, Some, ap, sym, ◌∙◌, arith, slice_get, rules}
-use Rattle.std.proofs.lemmas.Grind.{common_steps}
-use Rattle.ac_automaton.specs.declared.nfa.noncontiguous.state.State.{State}
+use Rattle.ac_util.proofs.Prelude.{◌∷◌, Some, ap, sym, ◌∙◌, arith, slice_get, rules, common_steps}
+use Rattle.ac_automaton.specs.Prelude.{State}
 use Rattle.ac_automaton.proofs.Reading.{IsRead, is-read, reads}
 use Rattle.ac_automaton.proofs.nfa.noncontiguous.NFA.fail.Given.{Over}
 use Rattle.ac_automaton.proofs.nfa.noncontiguous.NFA.fail.Goals as goal

@@ -1,6 +1,5 @@
-use Rattle.std.proofs.Common.{◌+◌, Some, ap, arith, length, refl}
-use Rattle.std.proofs.lemmas.Option.{slice_get_read}
-use Rattle.ac_automaton.specs.declared.nfa.noncontiguous.state.Transition.{Transition}
+use Rattle.ac_util.proofs.Prelude.{◌+◌, Some, ap, arith, length, refl, slice_get_read}
+use Rattle.ac_automaton.specs.Prelude.{Transition}
 use Rattle.ac_automaton.proofs.Reading.{IsPlace, own-place, own-read, reads}
 use Rattle.ac_automaton.proofs.nfa.noncontiguous.NFA.own.Given.{Over}
 use Rattle.ac_automaton.proofs.nfa.noncontiguous.NFA.own.Goals as goal

@@ -1,4 +1,4 @@
-use Rattle.std.proofs.Common.{rules}
+use Rattle.ac_util.proofs.Prelude.{rules}
 use Rattle.ac_automaton.proofs.Reading.{has-own, is-read, own-length, reads}
 use Rattle.ac_automaton.proofs.nfa.noncontiguous.NFA.own_len.Goals as goal
 

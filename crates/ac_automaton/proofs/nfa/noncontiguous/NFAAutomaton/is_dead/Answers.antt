@@ -1,6 +1,5 @@
-use Rattle.std.proofs.lemmas.Bool.{ltb-true}
-use Rattle.std.proofs.lemmas.Bool.Decides.{Decides-ltb}
-use Rattle.ac_automaton.specs.declared.nfa.noncontiguous.state.TheConstants.{START}
+use Rattle.ac_util.proofs.Prelude.{ltb-true, Decides-ltb}
+use Rattle.ac_automaton.specs.Prelude.{START}
 use Rattle.ac_automaton.proofs.TrieStates.{dead-number}
 use Rattle.ac_automaton.proofs.nfa.noncontiguous.NFAAutomaton.is_dead.Goals as goal
 

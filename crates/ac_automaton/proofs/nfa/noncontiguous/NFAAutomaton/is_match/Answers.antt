@@ -1,7 +1,5 @@
-use Rattle.std.proofs.Common.{arith}
-use Rattle.std.proofs.lemmas.Bool.Decides.{Decides-ltb, Decides-eqb, Decides-not}
-use Rattle.std.proofs.lemmas.Grind.{common_steps}
-use Rattle.ac_automaton.specs.declared.nfa.noncontiguous.state.TheConstants.{DEAD}
+use Rattle.ac_util.proofs.Prelude.{arith, Decides-ltb, Decides-eqb, Decides-not, common_steps}
+use Rattle.ac_automaton.specs.Prelude.{DEAD}
 use Rattle.ac_automaton.proofs.TrieStates.{listed-patterns, listed-linked}
 use Rattle.ac_automaton.proofs.nfa.noncontiguous.NFAAutomaton.is_match.Goals as goal
 

@@ -1,7 +1,5 @@
-use Rattle.std.proofs.Common.{arith}
-use Rattle.std.proofs.lemmas.Bool.{ltb-true}
-use Rattle.std.proofs.lemmas.Bool.Decides.{Decides-ltb}
-use Rattle.ac_automaton.specs.declared.nfa.noncontiguous.state.TheConstants.{FIRST_INNER}
+use Rattle.ac_util.proofs.Prelude.{arith, ltb-true, Decides-ltb}
+use Rattle.ac_automaton.specs.Prelude.{FIRST_INNER}
 use Rattle.ac_automaton.proofs.TrieStates.{start-number}
 use Rattle.ac_automaton.proofs.nfa.noncontiguous.NFAAutomaton.is_start.Goals as goal
 

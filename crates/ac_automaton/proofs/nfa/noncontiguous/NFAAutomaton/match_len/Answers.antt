@@ -1,5 +1,4 @@
-use Rattle.std.proofs.Common.{ℕ, length, ap, sym, ◌∙◌, arith}
-use Rattle.std.proofs.lemmas.Grind.{common_steps}
+use Rattle.ac_util.proofs.Prelude.{ℕ, length, ap, sym, ◌∙◌, arith, common_steps}
 use Rattle.ac_automaton.proofs.TrieStates.{has-state, listed-matches, meaning}
 use Rattle.ac_automaton.proofs.nfa.noncontiguous.NFAAutomaton.match_len.Goals as goal
 

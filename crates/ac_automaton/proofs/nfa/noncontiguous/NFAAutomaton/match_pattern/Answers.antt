@@ -1,6 +1,5 @@
-use Rattle.std.proofs.Common.{arith, length-drop, rules}
-use Rattle.std.proofs.lemmas.Grind.{common_steps}
-use Rattle.ac_automaton.specs.Tries.{listed_within}
+use Rattle.ac_util.proofs.Prelude.{arith, length-drop, rules, common_steps}
+use Rattle.ac_automaton.specs.Prelude.{listed_within}
 use Rattle.ac_automaton.proofs.Places.{slice_get-from_drop}
 use Rattle.ac_automaton.proofs.nfa.noncontiguous.NFAAutomaton.match_pattern.Goals as goal
 

@@ -1,4 +1,4 @@
-use Rattle.std.proofs.Common.{sym}
+use Rattle.ac_util.proofs.Prelude.{sym}
 use Rattle.ac_automaton.proofs.TrieStates.{has-state, meaning}
 use Rattle.ac_automaton.proofs.nfa.noncontiguous.NFAAutomaton.next_state.Goals as goal
 

@@ -1,5 +1,4 @@
-use Rattle.std.proofs.Common.{sym, arith}
-use Rattle.std.proofs.lemmas.Grind.{common_steps}
+use Rattle.ac_util.proofs.Prelude.{sym, arith, common_steps}
 use Rattle.ac_automaton.proofs.TrieStates.{has-state, meaning, takes-listed, takes-state}
 use Rattle.ac_automaton.proofs.nfa.noncontiguous.NFAAutomaton.take_match.Goals as goal
 

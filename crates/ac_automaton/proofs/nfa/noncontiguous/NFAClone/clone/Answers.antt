@@ -1,5 +1,4 @@
-use Rattle.std.proofs.Common.{◌≡◌}
-use Rattle.std.proofs.lemmas.List.Elements.{same_from_all_zip}
+use Rattle.ac_util.proofs.Prelude.{◌≡◌, same_from_all_zip}
 use Rattle.ac_automaton.proofs.nfa.noncontiguous.NFAClone.clone.Given.{Over}
 use Rattle.ac_automaton.proofs.nfa.noncontiguous.NFAClone.clone.Goals as goal
 use Rattle.ac_automaton.proofs.nfa.noncontiguous.NFAClone.clone.Goals.{In_ok-clone-4}

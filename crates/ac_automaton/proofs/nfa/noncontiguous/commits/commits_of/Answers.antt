@@ -1,10 +1,5 @@
-use Rattle.std.proofs.Common.{◌≡◌, true, List, length, refl, sym, ◌∙◌, subst}
-use Rattle.std.proofs.lemmas.Bool.{false≢true}
-use Rattle.ac_automaton.specs.Util.{Both, Node}
-use Rattle.ac_automaton.specs.Automata.{built_as, CommonView}
-use Rattle.ac_automaton.specs.Commits.{reads_on}
-use Rattle.ac_automaton.specs.Committing.{IsMade, IsViewOf, lists_by, ListsView, made_of, trie_by}
-use Rattle.ac_automaton.specs.Prelude.{IsTrie, meaning_of}
+use Rattle.ac_util.proofs.Prelude.{◌≡◌, true, List, length, refl, sym, ◌∙◌, subst, false≢true}
+use Rattle.ac_automaton.specs.Prelude.{Both, Node, built_as, CommonView, reads_on, IsMade, IsViewOf, lists_by, ListsView, made_of, trie_by, IsTrie, meaning_of}
 use Rattle.ac_automaton.proofs.WholeCommits.{are-commits, trie-may}
 use Rattle.ac_automaton.proofs.nfa.noncontiguous.commits.commits_of.Goals as goal
 use Rattle.ac_automaton.proofs.nfa.noncontiguous.commits.commits_of.Goals.{then-reads_on+in_ok-add_all, else-reads_on}

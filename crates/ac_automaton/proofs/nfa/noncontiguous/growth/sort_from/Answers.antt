@@ -1,9 +1,6 @@
-use Rattle.std.proofs.Common.{◌≡◌, ℕ, ◌-◌, List, [], ◌++◌, length, take, drop, ap, ◌∙◌, subst, rules, arith}
-use Rattle.std.specs.List.Sorted.{IsPermutation}
+use Rattle.ac_util.proofs.Prelude.{◌≡◌, ℕ, ◌-◌, List, [], ◌++◌, length, take, drop, ap, ◌∙◌, subst, rules, arith, IsPermutation, append-nil, common_steps}
+use Rattle.ac_automaton.specs.Prelude.{Transition}
 use Rattle.std.proofs.lemmas.Fn.{always_returns_same}
-use Rattle.std.proofs.lemmas.List.{append-nil}
-use Rattle.std.proofs.lemmas.Grind.{common_steps}
-use Rattle.ac_automaton.specs.declared.nfa.noncontiguous.state.Transition.{Transition}
 use Rattle.ac_automaton.proofs.nfa.noncontiguous.growth.sort_from.Goals as goal
 
 -- all from a place on are as many as there are after it, and nothing is after them

@@ -1,5 +1,5 @@
-use Rattle.std.proofs.Common.{◌+◌, ℕ, ◌<◌, sym, subst, rules, slice_index}
-use Rattle.ac_automaton.specs.Tries.{HasState, IsRootEntry}
+use Rattle.ac_util.proofs.Prelude.{◌+◌, ℕ, ◌<◌, sym, subst, rules, slice_index}
+use Rattle.ac_automaton.specs.Prelude.{HasState, IsRootEntry}
 use Rattle.ac_automaton.proofs.Roots.{entries-push}
 use Rattle.ac_automaton.proofs.nfa.noncontiguous.root.root_of.Goals as goal
 

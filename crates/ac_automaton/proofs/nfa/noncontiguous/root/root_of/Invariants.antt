@@ -1,5 +1,5 @@
-use Rattle.std.proofs.Common.{◌≡◌, ℕ, ◌<◌, length, slice_index}
-use Rattle.ac_automaton.specs.Tries.{IsRootEntry}
+use Rattle.ac_util.proofs.Prelude.{◌≡◌, ℕ, ◌<◌, length, slice_index}
+use Rattle.ac_automaton.specs.Prelude.{IsRootEntry}
 use Rattle.ac_automaton.proofs.nfa.noncontiguous.root.root_of.Given as goal
 
 -- the bytes below this one have their entries

@@ -1,5 +1,5 @@
 -- One more place is compared.
-use Rattle.std.proofs.Common.{rules}
+use Rattle.ac_util.proofs.Prelude.{rules}
 use Rattle.ac_automaton.proofs.Prefixes.{starts_with-differs, starts_with-agrees}
 use Rattle.ac_automaton.proofs.nfa.noncontiguous.sorted.begins_with.Goals as goal
 

@@ -1,7 +1,6 @@
 -- What is left of both strings begins alike if they do.
-use Rattle.std.proofs.Common.{◌≡◌, ◌≤◌, nat_eq, length, drop}
-use Rattle.std.specs.List.{starts_with}
-use Rattle.ac_util.specs.Occurrence.{plain}
+use Rattle.ac_util.proofs.Prelude.{◌≡◌, ◌≤◌, nat_eq, length, drop, starts_with}
+use Rattle.ac_automaton.specs.Prelude.{plain}
 use Rattle.ac_automaton.proofs.nfa.noncontiguous.sorted.begins_with.Given as goal
 
 abbrev pub invariant-loop-at : goal.invariant-loop-at

@@ -1,8 +1,6 @@
 -- Where case counts, the plain bytes are the bytes.
-use Rattle.std.proofs.Common.{◌∙◌, sym}
+use Rattle.ac_util.proofs.Prelude.{◌∙◌, sym, nat_cmp, map-id}
 use Rattle.std.specs.Cmp.Lexicographic.{slice_cmp}
-use Rattle.std.specs.Ordering.{nat_cmp}
-use Rattle.std.proofs.lemmas.List.{map-id}
 use Rattle.ac_automaton.proofs.nfa.noncontiguous.sorted.compare_bytes.Goals as goal
 
 pub returns : goal.returns

@@ -1,10 +1,9 @@
 -- The two chains give the plain bytes of both patterns, which the call compares.
-use Rattle.std.proofs.Common.{◌≡◌, true, rules, ap, refl, ◌∙◌}
-use Rattle.std.specs.Ordering.{nat_cmp}
+use Rattle.ac_util.proofs.Prelude.{◌≡◌, true, rules, ap, refl, ◌∙◌, nat_cmp}
+use Rattle.ac_automaton.specs.Prelude.{plain_byte}
 use Rattle.std.proofs.lemmas.Iterator.{YieldsList-from_slice, YieldsList-from_map}
 use Rattle.std.specs.Iterator.Adapters.{map_callee}
 use Rattle.std.proofs.lemmas.Iterator.Search.{cmp_from_yields_List}
-use Rattle.ac_util.specs.Occurrence.{plain_byte}
 use Rattle.ac_automaton.proofs.nfa.noncontiguous.sorted.compare_letters.Goals as goal
 
 pub returns : goal.returns

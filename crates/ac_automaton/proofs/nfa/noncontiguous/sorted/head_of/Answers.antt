@@ -1,6 +1,5 @@
 -- One more byte is added, for which there is room.
-use Rattle.std.proofs.lemmas.Grind.{common_steps}
-use Rattle.std.proofs.Common.{arith, rules}
+use Rattle.ac_util.proofs.Prelude.{common_steps, arith, rules}
 use Rattle.ac_automaton.proofs.PatternHeads.{head-bound, head-fits, head_of-zero, head_of-push}
 use Rattle.ac_automaton.proofs.ReadOn.{below_next}
 use Rattle.ac_automaton.proofs.nfa.noncontiguous.sorted.head_of.Goals as goal

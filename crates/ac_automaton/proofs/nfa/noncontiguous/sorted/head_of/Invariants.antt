@@ -1,7 +1,6 @@
 -- The number is the head of the bytes before the depth.
-use Rattle.std.proofs.Common.{◌≡◌, ◌<◌, ◌^◌}
-use Rattle.ac_util.specs.Occurrence.{plain}
-use Rattle.ac_automaton.specs.Sorted.{head_of}
+use Rattle.ac_util.proofs.Prelude.{◌≡◌, ◌<◌, ◌^◌}
+use Rattle.ac_automaton.specs.Prelude.{plain, head_of}
 use Rattle.ac_automaton.proofs.PatternHeads.{AreSmall}
 use Rattle.ac_automaton.proofs.nfa.noncontiguous.sorted.head_of.Given as goal
 

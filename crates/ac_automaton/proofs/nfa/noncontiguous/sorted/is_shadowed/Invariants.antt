@@ -1,7 +1,6 @@
 -- None of the patterns that the loop has passed is a prefix.
-use Rattle.std.proofs.Common.{◌≡◌, ◌≤◌, false, length}
-use Rattle.std.specs.List.{AllWithin}
-use Rattle.ac_automaton.specs.Sorted.{is_prefix}
+use Rattle.ac_util.proofs.Prelude.{◌≡◌, ◌≤◌, false, length, AllWithin}
+use Rattle.ac_automaton.specs.Prelude.{is_prefix}
 use Rattle.ac_automaton.proofs.nfa.noncontiguous.sorted.is_shadowed.Given as goal
 
 abbrev pub invariant-loop-left : goal.invariant-loop-left

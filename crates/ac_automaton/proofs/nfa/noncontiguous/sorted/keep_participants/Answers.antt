@@ -1,6 +1,5 @@
 -- Each pattern is kept or passed over, as the stack says.
-use Rattle.std.proofs.Common.{◌<◌, length, refl, arith}
-use Rattle.std.proofs.lemmas.Grind.{common_steps}
+use Rattle.ac_util.proofs.Prelude.{◌<◌, length, refl, arith, common_steps}
 use Rattle.ac_automaton.proofs.Keeping.{Keeps-skip, Keeps-keep, Keeps-end}
 use Rattle.ac_automaton.proofs.nfa.noncontiguous.sorted.keep_participants.Goals as goal
 use Rattle.ac_automaton.proofs.nfa.noncontiguous.sorted.keep_participants.Goals.{then-not-is_shadowed+in_ok-push, else-not-is_shadowed}

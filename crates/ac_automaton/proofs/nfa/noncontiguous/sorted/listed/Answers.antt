@@ -1,5 +1,5 @@
 -- One more pattern is listed with its number.
-use Rattle.std.proofs.Common.{rules}
+use Rattle.ac_util.proofs.Prelude.{rules}
 use Rattle.ac_automaton.proofs.Sorting.{All-pushed, map-push, map-range-push}
 use Rattle.ac_automaton.proofs.nfa.noncontiguous.sorted.listed.Goals as goal
 

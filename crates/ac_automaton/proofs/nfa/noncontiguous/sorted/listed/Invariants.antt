@@ -1,10 +1,7 @@
 -- The patterns below the number are listed.
-use Rattle.std.proofs.Common.{◌≡◌, ◌≤◌, length, map, take, All}
-use Rattle.std.specs.List.{range_with_len}
-use Rattle.ac_util.specs.declared.primitives.TheConstants.{GREATEST}
-use Rattle.ac_automaton.specs.Sorted.{IsHead}
+use Rattle.ac_util.proofs.Prelude.{◌≡◌, ◌≤◌, length, map, take, All, range_with_len}
+use Rattle.ac_automaton.specs.Prelude.{GREATEST, IsHead, plain}
 use Rattle.ac_automaton.proofs.nfa.noncontiguous.sorted.listed.Given as goal
-use Rattle.ac_automaton.specs.Util.{plain}
 
 abbrev pub invariant-loop-number : goal.invariant-loop-number
 invariant-loop-number g l = record {

@@ -1,7 +1,5 @@
-use Rattle.std.proofs.Common.{◌≡◌, ℕ, arith, subst, sym, ◌∙◌, rules}
-use Rattle.std.proofs.lemmas.Grind.{common_steps}
-use Rattle.ac_automaton.specs.Prelude.{HasState, TrieView, Represents, IsRootEntry, START}
-use Rattle.ac_automaton.specs.Util.{No, Node, Yes}
+use Rattle.ac_util.proofs.Prelude.{◌≡◌, ℕ, arith, subst, sym, ◌∙◌, rules, common_steps}
+use Rattle.ac_automaton.specs.Prelude.{HasState, TrieView, Represents, IsRootEntry, START, No, Node, Yes}
 use Rattle.ac_automaton.proofs.Follows.{Ended, represented, ends-root, ends-target, ends-anchored, ends-outer, goes-on, leads-inner}
 use Rattle.ac_automaton.proofs.nfa.noncontiguous.state.follow.Goals as goal
 use Rattle.ac_automaton.proofs.nfa.noncontiguous.state.follow.Goals.{in-Yes, in_default-matches, After-index-states-as_usize, After-look_in_root, After-must, In-Some-look, Then-as_usize-lt-FIRST_INNER}

@@ -1,6 +1,5 @@
-use Rattle.std.proofs.Common.{arith, sym, ◌∙◌, rules}
-use Rattle.ac_util.specs.Node.{Node}
-use Rattle.ac_automaton.specs.Tries.{Represents}
+use Rattle.ac_util.proofs.Prelude.{arith, sym, ◌∙◌, rules}
+use Rattle.ac_automaton.specs.Prelude.{Node, Represents}
 use Rattle.ac_automaton.proofs.Follows.{represented}
 use Rattle.ac_automaton.proofs.ListsOf.{counting-on, counting-end}
 use Rattle.ac_automaton.proofs.nfa.noncontiguous.state.listed_len.Goals as goal

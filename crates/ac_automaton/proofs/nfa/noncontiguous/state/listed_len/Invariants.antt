@@ -1,6 +1,5 @@
-use Rattle.std.proofs.Common.{◌+◌, ◌*◌, ◌≤◌}
-use Rattle.ac_util.specs.Node.{Node}
-use Rattle.ac_automaton.specs.Tries.{TrieView, HasState}
+use Rattle.ac_util.proofs.Prelude.{◌+◌, ◌*◌, ◌≤◌}
+use Rattle.ac_automaton.specs.Prelude.{Node, TrieView, HasState}
 use Rattle.ac_automaton.proofs.ListsOf.{Counting}
 use Rattle.ac_automaton.proofs.nfa.noncontiguous.state.listed_len.Given as goal
 

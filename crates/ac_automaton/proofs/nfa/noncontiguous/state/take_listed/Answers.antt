@@ -1,6 +1,5 @@
-use Rattle.std.proofs.Common.{◌≡◌, ◌+◌, arith, sym, subst, ◌∙◌, List, ℕ, get_or, rules}
-use Rattle.ac_util.specs.Node.{Node}
-use Rattle.ac_automaton.specs.Tries.{Represents}
+use Rattle.ac_util.proofs.Prelude.{◌≡◌, ◌+◌, arith, sym, subst, ◌∙◌, List, ℕ, get_or, rules}
+use Rattle.ac_automaton.specs.Prelude.{Node, Represents}
 use Rattle.ac_automaton.proofs.Follows.{represented}
 use Rattle.ac_automaton.proofs.ListsOf.{seeking-here, seeking-on, seeking-end, seeking-back}
 use Rattle.ac_automaton.proofs.nfa.noncontiguous.state.take_listed.Goals as goal

@@ -1,7 +1,5 @@
 -- The search begins no nearer than the byte can be, and goes down past greater bytes alone.
-use Rattle.std.proofs.Common.{◌≡◌, ◌<◌, length, get_or, arith, ap, inl, inr, rules}
-use Rattle.std.proofs.lemmas.Bool.{cases_lt}
-use Rattle.std.proofs.lemmas.Grind.{common_steps}
+use Rattle.ac_util.proofs.Prelude.{◌≡◌, ◌<◌, length, get_or, arith, ap, inl, inr, rules, cases_lt, common_steps}
 use Rattle.ac_automaton.specs.Prelude.{transition_bytes}
 use Rattle.ac_automaton.proofs.Rising.{byte-read, greater-beyond, none-below, none-between, read-target}
 use Rattle.ac_automaton.proofs.nfa.noncontiguous.state.target_among.Goals.{then-loop-at-test+else-own-at, else-loop-at-test}

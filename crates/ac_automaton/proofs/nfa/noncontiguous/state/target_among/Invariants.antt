@@ -1,5 +1,5 @@
 -- All transitions after the place have greater bytes.
-use Rattle.std.proofs.Common.{◌<◌, length}
+use Rattle.ac_util.proofs.Prelude.{◌<◌, length}
 use Rattle.ac_automaton.proofs.Rising.{AreGreaterAfter}
 use Rattle.ac_automaton.proofs.nfa.noncontiguous.state.target_among.Given as goal
 

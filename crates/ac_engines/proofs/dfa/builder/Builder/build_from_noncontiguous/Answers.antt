@@ -1,9 +1,5 @@
-use Rattle.std.proofs.Common.{◌≡◌, ◌∙◌, ℕ, List, refl, subst}
-use Rattle.ac_automaton.specs.Automata.{common_of}
-use Rattle.ac_automaton.specs.Prelude.{AreNodes}
-use Rattle.ac_automaton.specs.Util.{Node}
-use Rattle.ac_engines.specs.Commits.{AreRenumbered}
-use Rattle.ac_engines.specs.Dfa.Filling.{first_row_in}
+use Rattle.ac_util.proofs.Prelude.{◌≡◌, ◌∙◌, ℕ, List, refl, subst}
+use Rattle.ac_engines.specs.Prelude.{common_of, AreNodes, Node, AreRenumbered, first_row_in}
 use Rattle.ac_engines.proofs.Assembled.{are-table, has-matches-among, may-fill, planned}
 use Rattle.ac_engines.proofs.EngineCommits.{dfa-commits}
 use Rattle.ac_engines.proofs.dfa.builder.Builder.build_from_noncontiguous.Goals as goal

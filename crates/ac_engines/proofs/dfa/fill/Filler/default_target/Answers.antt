@@ -1,5 +1,4 @@
-use Rattle.std.proofs.Common.{rules}
-use Rattle.std.proofs.lemmas.Bool.{cases_lt}
+use Rattle.ac_util.proofs.Prelude.{rules, cases_lt}
 use Rattle.ac_engines.proofs.Starts.{default_target-dead, default_target-start}
 use Rattle.ac_engines.proofs.dfa.fill.Filler.default_target.Goals.{else-is_leftmost-via-then-is_leftmost+else-min_pattern_len-eq0, else-is_leftmost-via-else-is_leftmost}
 use Rattle.ac_engines.proofs.dfa.fill.Filler.default_target.Goals as goal

@@ -1,7 +1,5 @@
-use Rattle.std.proofs.Common.{◌≡◌, ◌≢◌, ℕ, ◌+◌, [], length, ap, subst, refl, arith, ◌∙◌, rules}
-use Rattle.ac_util.specs.Patterns.{state_count}
-use Rattle.ac_automaton.specs.Automata.{plain_of}
-use Rattle.ac_engines.specs.Dfa.Filling.{FilledUpTo, Filling}
+use Rattle.ac_util.proofs.Prelude.{◌≡◌, ◌≢◌, ℕ, ◌+◌, [], length, ap, subst, refl, arith, ◌∙◌, rules}
+use Rattle.ac_engines.specs.Prelude.{state_count, plain_of, FilledUpTo, Filling}
 use Rattle.ac_engines.proofs.RowByRow.{filled-none, filled-third}
 use Rattle.ac_engines.proofs.StateRows.{has-row, row-at}
 use Rattle.ac_engines.proofs.dfa.fill.Filler.fill.Goals as goal

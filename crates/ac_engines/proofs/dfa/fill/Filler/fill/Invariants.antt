@@ -1,6 +1,5 @@
-use Rattle.std.proofs.Common.{List, length}
-use Rattle.ac_util.specs.Node.{Node}
-use Rattle.ac_engines.specs.Dfa.Filling.{FilledUpTo, MayFill}
+use Rattle.ac_util.proofs.Prelude.{List, length}
+use Rattle.ac_engines.specs.Prelude.{Node, FilledUpTo, MayFill}
 use Rattle.ac_engines.proofs.dfa.fill.Filler.fill.Given as goal
 
 -- the rows of the states so far are filled

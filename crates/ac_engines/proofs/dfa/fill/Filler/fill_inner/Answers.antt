@@ -1,8 +1,5 @@
-use Rattle.std.proofs.Common.{◌≡◌, ◌∷◌, length, slice_index_or, ap, sym, subst, arith, inl, inr, ◌∙◌, Some, refl, slice_get}
-use Rattle.std.proofs.lemmas.Option.{slice_get_within}
-use Rattle.ac_automaton.specs.Util.{alphabet_len, failure}
-use Rattle.ac_automaton.specs.Prelude.{AreNodes, plain_of, Trie}
-use Rattle.ac_engines.specs.Dfa.Filling.{Filling}
+use Rattle.ac_util.proofs.Prelude.{◌≡◌, ◌∷◌, length, slice_index_or, ap, sym, subst, arith, inl, inr, ◌∙◌, Some, refl, slice_get, slice_get_within}
+use Rattle.ac_engines.specs.Prelude.{alphabet_len, failure, AreNodes, plain_of, Trie, Filling}
 use Rattle.ac_engines.proofs.OneRow.{inner-filled, inner-row}
 use Rattle.ac_engines.proofs.StateRows.{classes-apart, classes-within, failed-to, row-of}
 use Rattle.ac_engines.proofs.dfa.fill.Filler.fill_inner.Goals as goal

@@ -1,6 +1,5 @@
-use Rattle.std.proofs.Common.{◌≡◌, ◌≢◌, ℕ, List, [], length, ◌∙◌, rules}
-use Rattle.ac_util.specs.Node.{Node}
-use Rattle.ac_engines.specs.Dfa.Filling.{Filling, HasRow}
+use Rattle.ac_util.proofs.Prelude.{◌≡◌, ◌≢◌, ℕ, List, [], length, ◌∙◌, rules}
+use Rattle.ac_engines.specs.Prelude.{Node, Filling, HasRow}
 use Rattle.ac_engines.proofs.Numbered.{inner-string}
 use Rattle.ac_engines.proofs.OneRow.{anchored-filled}
 use Rattle.ac_engines.proofs.dfa.fill.Filler.fill_row.Goals as goal

@@ -1,8 +1,6 @@
-use Rattle.std.proofs.Common.{length, refl, ap, arith, ◌∙◌, []}
-use Rattle.ac_automaton.specs.Util.{alphabet_len, No}
+use Rattle.ac_util.proofs.Prelude.{length, refl, ap, arith, ◌∙◌, []}
+use Rattle.ac_engines.specs.Prelude.{alphabet_len, No, plain_of, Filling}
 use Rattle.ac_util.proofs.Reached.{stops}
-use Rattle.ac_automaton.specs.Automata.{plain_of}
-use Rattle.ac_engines.specs.Dfa.Filling.{Filling}
 use Rattle.ac_engines.proofs.Owning.{row-room}
 use Rattle.ac_engines.proofs.OneRow.{start-led}
 use Rattle.ac_engines.proofs.dfa.fill.Filler.fill_start.Goals as goal

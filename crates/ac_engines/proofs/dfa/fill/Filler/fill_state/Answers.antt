@@ -1,8 +1,7 @@
-use Rattle.std.proofs.Common.{◌≡◌, ℕ, List, length, None, ap, sym, refl, ◌∙◌, rules}
+use Rattle.ac_util.proofs.Prelude.{◌≡◌, ℕ, List, length, None, ap, sym, refl, ◌∙◌, rules}
+use Rattle.ac_engines.specs.Prelude.{Both, No, Node, start_refusal, StartKind, Unanchored, Yes, FilledUpTo, Filling, FillsRow, FillsState, HasFilled, HasRow, MayFillRow, row_input}
 use Rattle.ac_util.specs.declared.search.Anchored.{Anchored}
-use Rattle.ac_automaton.specs.Util.{Both, No, Node, start_refusal, StartKind, Unanchored, Yes}
 use Rattle.ac_util.specs.declared.search.StartKind.TheVariants.{Anchored as AnchoredAlone}
-use Rattle.ac_engines.specs.Prelude.{FilledUpTo, Filling, FillsRow, FillsState, HasFilled, HasRow, MayFillRow, row_input}
 use Rattle.ac_engines.proofs.RowByRow.{both-filled, may-row, one-filled, only-anchored, only-unanchored, second-row}
 use Rattle.ac_engines.proofs.dfa.fill.Filler.fill_state.Goals as goal
 

@@ -1,5 +1,5 @@
-use Rattle.std.proofs.Common.{arith, ap, slice_index_or}
-use Rattle.ac_engines.specs.Dfa.Filling.{Filling}
+use Rattle.ac_util.proofs.Prelude.{arith, ap, slice_index_or}
+use Rattle.ac_engines.specs.Prelude.{Filling}
 use Rattle.ac_engines.proofs.Numbered.{place-row}
 use Rattle.ac_engines.proofs.dfa.fill.Filler.number.Goals as goal
 

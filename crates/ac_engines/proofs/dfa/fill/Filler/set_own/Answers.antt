@@ -1,7 +1,5 @@
-use Rattle.std.proofs.Common.{ap, sym, subst, arith, length, ◌∙◌, ◌++◌, ◌∷◌, [], Some, take_all}
-use Rattle.ac_automaton.specs.Util.{alphabet_len, class_at, plain_byte}
-use Rattle.ac_automaton.specs.Prelude.{AreNodes, IsOwn, transition_bytes_of, Trie}
-use Rattle.ac_engines.specs.Dfa.Filling.{Filling, HasSet, row_input}
+use Rattle.ac_util.proofs.Prelude.{ap, sym, subst, arith, length, ◌∙◌, ◌++◌, ◌∷◌, [], Some, take_all}
+use Rattle.ac_engines.specs.Prelude.{alphabet_len, class_at, plain_byte, AreNodes, IsOwn, transition_bytes_of, Trie, Filling, HasSet, row_input}
 use Rattle.ac_engines.proofs.Owning.{next-row, own-more, transition_bytes_of-starts, row-room}
 use Rattle.ac_engines.proofs.dfa.fill.Filler.set_own.Goals as goal
 

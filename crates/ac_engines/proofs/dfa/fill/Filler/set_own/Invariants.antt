@@ -1,7 +1,5 @@
-use Rattle.std.proofs.Common.{ℕ, List, length, take, Some}
-use Rattle.ac_util.specs.Node.{Node}
-use Rattle.ac_automaton.specs.Tries.{transition_bytes_of}
-use Rattle.ac_engines.specs.Dfa.Filling.{HasRow, HasSet, row_input}
+use Rattle.ac_util.proofs.Prelude.{ℕ, List, length, take, Some}
+use Rattle.ac_engines.specs.Prelude.{Node, transition_bytes_of, HasRow, HasSet, row_input}
 use Rattle.ac_engines.proofs.dfa.fill.Filler.set_own.Given as goal
 
 -- the own transitions so far are set

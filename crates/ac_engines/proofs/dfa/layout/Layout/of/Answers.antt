@@ -1,10 +1,7 @@
-use Rattle.std.proofs.Common.{◌≡◌, ◌*◌, ◌+◌, ◌-◌, ◌^◌, ◌<◌, ℕ, Some, [], ap, sym, subst, ◌∙◌, arith, length}
+use Rattle.ac_util.proofs.Prelude.{◌≡◌, ◌*◌, ◌+◌, ◌-◌, ◌^◌, ◌<◌, ℕ, Some, [], ap, sym, subst, ◌∙◌, arith, length, false≢true}
+use Rattle.ac_engines.specs.Prelude.{No, state_count, plain_of, rows_each, table_rows}
 use Rattle.std.proofs.lemmas.Nat.{pow_pos}
-use Rattle.std.proofs.lemmas.Bool.{false≢true}
-use Rattle.ac_automaton.specs.Util.{No, state_count}
-use Rattle.ac_automaton.specs.Automata.{plain_of}
 use Rattle.ac_automaton.proofs.Heads.{nil-from_not}
-use Rattle.ac_engines.specs.Dfa.Layouts.{rows_each, table_rows}
 use Rattle.ac_engines.proofs.LaidOut.{four-empty, laid-out, two-empty}
 use Rattle.ac_engines.proofs.LaidUpTo.{IsLaidUpTo, named-inner, none-laid, plan_of}
 use Rattle.ac_engines.proofs.Laying.{one-more-laid, row-number}

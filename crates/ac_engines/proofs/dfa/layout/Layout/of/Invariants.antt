@@ -1,7 +1,5 @@
-use Rattle.std.proofs.Common.{List}
-use Rattle.ac_automaton.specs.Util.{Node, state_count}
-use Rattle.ac_automaton.specs.Prelude.{AreNodes, plain_of}
-use Rattle.ac_engines.specs.Dfa.Layouts.{table_rows}
+use Rattle.ac_util.proofs.Prelude.{List}
+use Rattle.ac_engines.specs.Prelude.{Node, state_count, AreNodes, plain_of, table_rows}
 use Rattle.ac_engines.proofs.LaidUpTo.{IsLaidUpTo, plan_of}
 use Rattle.ac_engines.proofs.dfa.layout.Layout.of.Given as goal
 

@@ -1,5 +1,4 @@
-use Rattle.std.proofs.Common.{refl, sym, ◌∙◌, arith, inr}
-use Rattle.std.proofs.lemmas.Bool.{false≢true}
+use Rattle.ac_util.proofs.Prelude.{refl, sym, ◌∙◌, arith, inr, false≢true}
 use Rattle.ac_automaton.proofs.Heads.{nil-from_not}
 use Rattle.ac_engines.proofs.RowLists.{unmatched}
 use Rattle.ac_engines.proofs.dfa.layout.Rows.place.Goals as goal

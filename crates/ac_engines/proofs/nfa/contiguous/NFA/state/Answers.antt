@@ -1,4 +1,4 @@
-use Rattle.std.proofs.Common.{rules}
+use Rattle.ac_util.proofs.Prelude.{rules}
 use Rattle.ac_engines.proofs.Follow.{stands-within}
 use Rattle.ac_engines.proofs.nfa.contiguous.NFA.state.Goals as goal
 

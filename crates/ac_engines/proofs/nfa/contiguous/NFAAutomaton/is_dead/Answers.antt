@@ -1,5 +1,4 @@
-use Rattle.std.proofs.Common.{◌∙◌, sym}
-use Rattle.std.proofs.lemmas.Bool.{eq-eqb, eqb-true}
+use Rattle.ac_util.proofs.Prelude.{◌∙◌, sym, eq-eqb, eqb-true}
 use Rattle.ac_engines.proofs.PackedNumbers.{dead-number}
 use Rattle.ac_engines.proofs.nfa.contiguous.NFAAutomaton.is_dead.Goals as goal
 

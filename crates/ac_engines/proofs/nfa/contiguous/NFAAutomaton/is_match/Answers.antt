@@ -1,6 +1,5 @@
-use Rattle.std.proofs.Common.{ap, arith}
-use Rattle.std.proofs.lemmas.Bool.{lt-ltb, ltb-true}
-use Rattle.ac_engines.specs.Contiguous.{ContiguousView}
+use Rattle.ac_util.proofs.Prelude.{ap, arith, lt-ltb, ltb-true}
+use Rattle.ac_engines.specs.Prelude.{ContiguousView}
 use Rattle.ac_engines.proofs.PackedNumbers.{match-number}
 use Rattle.ac_engines.proofs.nfa.contiguous.NFAAutomaton.is_match.Goals as goal
 

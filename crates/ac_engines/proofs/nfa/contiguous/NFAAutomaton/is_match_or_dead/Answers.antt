@@ -1,6 +1,5 @@
-use Rattle.std.proofs.Common.{ap, inl, inr, arith}
-use Rattle.std.proofs.lemmas.Bool.{lt-ltb, ltb-true, cases_eq}
-use Rattle.ac_engines.specs.Contiguous.{ContiguousView}
+use Rattle.ac_util.proofs.Prelude.{ap, inl, inr, arith, lt-ltb, ltb-true, cases_eq}
+use Rattle.ac_engines.specs.Prelude.{ContiguousView}
 use Rattle.ac_engines.proofs.PackedNumbers.{dead-number, match-number}
 use Rattle.ac_engines.proofs.nfa.contiguous.NFAAutomaton.is_match_or_dead.Goals as goal
 

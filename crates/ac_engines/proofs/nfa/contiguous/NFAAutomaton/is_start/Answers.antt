@@ -1,7 +1,5 @@
-use Rattle.std.proofs.Common.{◌≡◌, ℕ, Bool, true, ◌∙◌, sym, ap, inl, inr, ◌&&◌, ◌==◌, arith}
-use Rattle.std.proofs.lemmas.Bool.{eq-eqb}
-use Rattle.std.proofs.lemmas.Grind.{common_steps}
-use Rattle.ac_engines.specs.Contiguous.{ContiguousView}
+use Rattle.ac_util.proofs.Prelude.{◌≡◌, ℕ, Bool, true, ◌∙◌, sym, ap, inl, inr, ◌&&◌, ◌==◌, arith, eq-eqb, common_steps}
+use Rattle.ac_engines.specs.Prelude.{ContiguousView}
 use Rattle.ac_engines.proofs.PackedNumbers.{start-number}
 use Rattle.ac_engines.proofs.nfa.contiguous.NFAAutomaton.is_start.Goals as goal
 

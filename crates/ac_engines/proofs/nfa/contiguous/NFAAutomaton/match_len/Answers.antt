@@ -1,6 +1,5 @@
-use Rattle.std.proofs.Common.{ap, sym, ◌∙◌, List, ℕ, length}
-use Rattle.ac_util.specs.Classes.{alphabet_len}
-use Rattle.ac_engines.specs.Contiguous.{ContiguousView}
+use Rattle.ac_util.proofs.Prelude.{ap, sym, ◌∙◌, List, ℕ, length}
+use Rattle.ac_engines.specs.Prelude.{alphabet_len, ContiguousView}
 use Rattle.ac_engines.proofs.PackedNumbers.{begins}
 use Rattle.ac_engines.proofs.nfa.contiguous.NFAAutomaton.match_len.Goals as goal
 

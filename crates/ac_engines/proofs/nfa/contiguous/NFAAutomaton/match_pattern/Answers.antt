@@ -1,7 +1,5 @@
-use Rattle.std.proofs.Common.{ap, sym, subst, ◌∙◌, ◌<◌, List, ℕ, length, arith, Some, slice_index_or}
-use Rattle.ac_util.specs.Classes.{alphabet_len}
-use Rattle.std.proofs.lemmas.Option.{slice_get-get_or}
-use Rattle.ac_engines.specs.Contiguous.{ContiguousView, match_list_at}
+use Rattle.ac_util.proofs.Prelude.{ap, sym, subst, ◌∙◌, ◌<◌, List, ℕ, length, arith, Some, slice_index_or, slice_get-get_or}
+use Rattle.ac_engines.specs.Prelude.{alphabet_len, ContiguousView, match_list_at}
 use Rattle.ac_engines.proofs.PackedNumbers.{Begins, begins}
 use Rattle.ac_engines.proofs.nfa.contiguous.NFAAutomaton.match_pattern.Given.{Over}
 use Rattle.ac_engines.proofs.nfa.contiguous.NFAAutomaton.match_pattern.Goals as goal

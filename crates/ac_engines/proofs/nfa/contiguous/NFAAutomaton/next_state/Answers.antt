@@ -1,6 +1,5 @@
-use Rattle.std.proofs.Common.{ap, sym, ◌∙◌}
-use Rattle.ac_util.specs.Classes.{class_at}
-use Rattle.ac_engines.specs.Contiguous.{ContiguousView}
+use Rattle.ac_util.proofs.Prelude.{ap, sym, ◌∙◌}
+use Rattle.ac_engines.specs.Prelude.{class_at, ContiguousView}
 use Rattle.ac_engines.proofs.nfa.contiguous.NFAAutomaton.next_state.Goals as goal
 
 pub returns-clause-steps : goal.returns-clause-steps

@@ -1,9 +1,6 @@
-use Rattle.std.proofs.Common.{◌≡◌, ◌≢◌, ◌+◌, ◌∷◌, [], sym, ap, ◌∙◌, List, ℕ, drop, arith}
-use Rattle.std.proofs.lemmas.Bool.{false≢true}
+use Rattle.ac_util.proofs.Prelude.{◌≡◌, ◌≢◌, ◌+◌, ◌∷◌, [], sym, ap, ◌∙◌, List, ℕ, drop, arith, false≢true, drop_more, get_or_from_slice_get, slice_get_within}
+use Rattle.ac_engines.specs.Prelude.{match_list_at}
 use Rattle.std.proofs.Math.ListN.{drop_of_length-le}
-use Rattle.std.proofs.lemmas.List.{drop_more}
-use Rattle.std.proofs.lemmas.Option.{get_or_from_slice_get, slice_get_within}
-use Rattle.ac_engines.specs.Contiguous.{match_list_at}
 use Rattle.ac_engines.proofs.nfa.contiguous.NFAAutomaton.take_match.Goals as goal
 use Rattle.ac_engines.proofs.nfa.contiguous.NFAAutomaton.take_match.Goals.{then-not-is_match-via-then-not-is_match, then-not-is_match-via-else-not-is_match+then-rest-match_len}
 

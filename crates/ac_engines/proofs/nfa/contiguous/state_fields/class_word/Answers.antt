@@ -1,5 +1,4 @@
-use Rattle.std.proofs.Common.{rules}
-use Rattle.std.proofs.lemmas.List.{length-map}
+use Rattle.ac_util.proofs.Prelude.{rules, length-map}
 use Rattle.ac_engines.proofs.PushingClasses.{class_words-one}
 use Rattle.ac_engines.proofs.nfa.contiguous.state_fields.class_word.Goals as goal
 

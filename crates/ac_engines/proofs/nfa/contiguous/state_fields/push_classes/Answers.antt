@@ -1,6 +1,5 @@
-use Rattle.std.proofs.Common.{◌∙◌, arith}
+use Rattle.ac_util.proofs.Prelude.{◌∙◌, arith, common_steps}
 use Rattle.std.specs.Slice.Iter.{chunks_rest}
-use Rattle.std.proofs.lemmas.Grind.{common_steps}
 use Rattle.ac_engines.proofs.PushingClasses.{next-classes, no-classes}
 use Rattle.ac_engines.proofs.nfa.contiguous.state_fields.push_classes.Goals as goal
 

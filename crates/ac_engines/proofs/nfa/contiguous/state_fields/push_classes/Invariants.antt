@@ -1,6 +1,6 @@
-use Rattle.std.proofs.Common.{◌≡◌, ◌++◌, map}
-use Rattle.std.specs.Slice.Iter.{chunks_rest, chunks_size}
+use Rattle.ac_util.proofs.Prelude.{◌≡◌, ◌++◌, map}
 use Rattle.ac_engines.specs.Prelude.{class_words, Edge}
+use Rattle.std.specs.Slice.Iter.{chunks_rest, chunks_size}
 use Rattle.ac_engines.proofs.nfa.contiguous.state_fields.push_classes.Given as goal
 
 -- the words so far, with those of the classes that are left, are the words of all classes

@@ -1,5 +1,4 @@
-use Rattle.std.proofs.Common.{rules}
-use Rattle.std.proofs.lemmas.List.{length-replicate}
+use Rattle.ac_util.proofs.Prelude.{rules, length-replicate}
 use Rattle.ac_engines.proofs.SettingTargets.{all-targets, blank-after, resized, written-after}
 use Rattle.ac_engines.proofs.PushedStates.{two-pushed}
 use Rattle.ac_engines.proofs.nfa.contiguous.state_fields.push_dense.Goals as goal

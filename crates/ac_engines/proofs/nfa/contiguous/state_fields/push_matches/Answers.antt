@@ -1,8 +1,7 @@
-use Rattle.std.proofs.Common.{rules, ◌∙◌, ℕ, ◌++◌, ◌∷◌, [], length, ap, refl}
+use Rattle.ac_util.proofs.Prelude.{rules, ◌∙◌, ℕ, ◌++◌, ◌∷◌, [], length, ap, refl, append_assoc, map-id}
 use Rattle.std.specs.Slice.Iter.{iter_rest}
 use Rattle.std.proofs.lemmas.Iterator.{YieldsList-from_map, YieldsList-from_slice}
 use Rattle.std.proofs.lemmas.Iterator.Adapters.{items_from_extend}
-use Rattle.std.proofs.lemmas.List.{append_assoc, map-id}
 use Rattle.ac_engines.proofs.PushedStates.{several-matches}
 use Rattle.ac_engines.proofs.nfa.contiguous.state_fields.push_matches.Goals as goal
 

@@ -1,9 +1,8 @@
-use Rattle.std.proofs.Common.{rules, ◌∙◌, ◌++◌, ◌∷◌, [], length, map, ap, refl}
+use Rattle.ac_util.proofs.Prelude.{rules, ◌∙◌, ◌++◌, ◌∷◌, [], length, map, ap, refl, append_assoc}
+use Rattle.ac_engines.specs.Prelude.{class_words, Edge}
 use Rattle.std.specs.Slice.Iter.{iter_rest}
-use Rattle.std.proofs.lemmas.List.{append_assoc}
 use Rattle.std.proofs.lemmas.Iterator.{YieldsList-from_map, YieldsList-from_slice}
 use Rattle.std.proofs.lemmas.Iterator.Adapters.{items_from_extend}
-use Rattle.ac_engines.specs.Prelude.{class_words, Edge}
 use Rattle.ac_engines.proofs.PushedStates.{two-pushed}
 use Rattle.ac_engines.proofs.nfa.contiguous.state_fields.push_sparse.Goals as goal
 

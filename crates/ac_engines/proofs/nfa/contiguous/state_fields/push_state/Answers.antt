@@ -1,5 +1,5 @@
-use Rattle.std.proofs.Common.{rules, append_assoc}
-use Rattle.ac_engines.specs.Contiguous.Words.{format_words}
+use Rattle.ac_util.proofs.Prelude.{rules, append_assoc}
+use Rattle.ac_engines.specs.Prelude.{format_words}
 use Rattle.ac_engines.proofs.nfa.contiguous.state_fields.push_state.Goals as goal
 
 -- the matches stand after the targets

@@ -1,4 +1,4 @@
-use Rattle.std.proofs.Common.{rules}
+use Rattle.ac_util.proofs.Prelude.{rules}
 use Rattle.ac_engines.proofs.SettingTargets.{no-target, next-target}
 use Rattle.ac_engines.proofs.nfa.contiguous.state_fields.set_targets.Goals as goal
 

@@ -1,5 +1,5 @@
-use Rattle.std.proofs.Common.{take}
-use Rattle.ac_engines.specs.Contiguous.Words.{HasTargets}
+use Rattle.ac_util.proofs.Prelude.{take}
+use Rattle.ac_engines.specs.Prelude.{HasTargets}
 use Rattle.ac_engines.proofs.nfa.contiguous.state_fields.set_targets.Given as goal
 
 -- the targets so far are set

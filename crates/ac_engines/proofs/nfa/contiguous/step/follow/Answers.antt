@@ -1,10 +1,7 @@
-use Rattle.std.proofs.Common.{◌≡◌, ℕ, ◌<◌, List, length, refl, Some, None, ap, sym, subst, ◌∙◌, arith, rules}
-use Rattle.std.proofs.lemmas.Bool.{false≢true}
+use Rattle.ac_util.proofs.Prelude.{◌≡◌, ℕ, ◌<◌, List, length, refl, Some, None, ap, sym, subst, ◌∙◌, arith, rules, false≢true}
+use Rattle.ac_engines.specs.Prelude.{alphabet_len, class_at, Counts, No, Node, Yes, step_of, BeginsWith, ContiguousView, FAIL, IsContiguousState, named, node_format, packed_at, target_by}
 use Rattle.ac_util.specs.declared.search.Anchored.{Anchored}
-use Rattle.ac_automaton.specs.Util.{alphabet_len, class_at, Counts, No, Node, Yes}
-use Rattle.ac_automaton.specs.Automata.{step_of}
 use Rattle.ac_util.proofs.ClassLists.{class_at-below}
-use Rattle.ac_engines.specs.Prelude.{BeginsWith, ContiguousView, FAIL, IsContiguousState, named, node_format, packed_at, target_by}
 use Rattle.ac_engines.proofs.Follow.{WalkHasEnded, WalkGoesOnward, onward-start, ends-anchored, ends-target, begins-at, goes-on, stands-small, stands-within}
 use Rattle.ac_engines.proofs.PackedSteps.{are-named, target_of}
 use Rattle.ac_engines.proofs.PackedWords.{none-named, some-named}

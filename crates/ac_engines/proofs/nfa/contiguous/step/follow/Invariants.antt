@@ -1,6 +1,5 @@
-use Rattle.std.proofs.Common.{◌≡◌, ℕ, ◌<◌, ◌+◌, ◌-◌}
-use Rattle.ac_automaton.specs.Util.{class_at, Node}
-use Rattle.ac_engines.specs.Contiguous.{ContiguousView, IsContiguousState}
+use Rattle.ac_util.proofs.Prelude.{◌≡◌, ℕ, ◌<◌, ◌+◌, ◌-◌}
+use Rattle.ac_engines.specs.Prelude.{class_at, Node, ContiguousView, IsContiguousState}
 use Rattle.ac_engines.proofs.Follow.{WalkGoesOnward}
 use Rattle.ac_engines.proofs.nfa.contiguous.step.follow.Given as goal
 

@@ -1,4 +1,4 @@
-use Rattle.std.proofs.Common.{rules}
+use Rattle.ac_util.proofs.Prelude.{rules}
 use Rattle.ac_util.proofs.PiecesLemmas.{length-pieces}
 use Rattle.ac_util.proofs.patterns.pieces.Pieces.len.Goals as goal
 

@@ -1,5 +1,5 @@
-use Rattle.std.proofs.Common.{◌≡◌, ◌++◌, ◌∷◌, [], length, arith}
-use Rattle.ac_util.specs.Patterns.{AreBounds, pieces}
+use Rattle.ac_util.proofs.Prelude.{◌≡◌, ◌++◌, ◌∷◌, [], length, arith}
+use Rattle.ac_util.specs.Prelude.{AreBounds, pieces}
 use Rattle.ac_util.proofs.PiecesLemmas.{one_more_piece}
 use Rattle.ac_util.proofs.patterns.pieces.Pieces.push.Given.{Over}
 use Rattle.ac_util.proofs.patterns.pieces.Pieces.push.Goals.{In-Ok}

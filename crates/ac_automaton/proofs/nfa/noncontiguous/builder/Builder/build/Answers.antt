@@ -1,8 +1,5 @@
-use Rattle.std.proofs.Common.{◌≡◌, Bool, ℕ, List, map, refl, subst, arith, Option, None, Some, Ok, Err, Result, MatchOption, rules}
-use Rattle.std.proofs.lemmas.Grind.{common_steps}
-use Rattle.ac_util.specs.Patterns.{IsCheckedFirst}
-use Rattle.ac_automaton.specs.Util.{BuildError, bytes_of, limit_refusal, MatchKind, plain}
-use Rattle.ac_automaton.specs.Builds.{EngineSettings, IsAllowed, state_refusal, too_many_states}
+use Rattle.ac_util.proofs.Prelude.{◌≡◌, Bool, ℕ, List, map, refl, subst, arith, Option, None, Some, Ok, Err, Result, MatchOption, rules, common_steps}
+use Rattle.ac_automaton.specs.Prelude.{IsCheckedFirst, BuildError, bytes_of, limit_refusal, MatchKind, plain, EngineSettings, IsAllowed, state_refusal, too_many_states}
 use Rattle.ac_automaton.proofs.TrieStates.{start-state}
 use Rattle.ac_automaton.proofs.nfa.noncontiguous.builder.Builder.build.Goals as goal
 

@@ -1,10 +1,5 @@
-use Rattle.std.proofs.Common.{◌≡◌, ℕ, ◌+◌, true, false, is_some, MatchOption, Option, None, Some, List, [], ◌∷◌, ◌++◌, length, length-append, slice_set, refl, ap, sym, ◌∙◌, subst, arith}
-use Rattle.std.proofs.lemmas.Option.{slice_get_within}
-use Rattle.ac_automaton.specs.declared.automaton.commits.Commit.{Commit}
-use Rattle.ac_automaton.specs.declared.nfa.noncontiguous.commits.Making.{Making}
-use Rattle.ac_automaton.specs.declared.nfa.noncontiguous.state.Transition.{Transition}
-use Rattle.ac_automaton.specs.Committing.{HasAdded, IsChild, HasString, LeadsToChild, Made, made_of}
-use Rattle.ac_automaton.specs.Prelude.{IsNumbered}
+use Rattle.ac_util.proofs.Prelude.{◌≡◌, ℕ, ◌+◌, true, false, is_some, MatchOption, Option, None, Some, List, [], ◌∷◌, ◌++◌, length, length-append, slice_set, refl, ap, sym, ◌∙◌, subst, arith, slice_get_within}
+use Rattle.ac_automaton.specs.Prelude.{Commit, Making, Transition, HasAdded, IsChild, HasString, LeadsToChild, Made, made_of, IsNumbered}
 use Rattle.ac_automaton.proofs.CommitSteps.{state-in}
 use Rattle.ac_automaton.proofs.CommitAdding.{added-commit, added-none}
 use Rattle.ac_automaton.proofs.nfa.noncontiguous.commits.Making.add.Given.{Over}

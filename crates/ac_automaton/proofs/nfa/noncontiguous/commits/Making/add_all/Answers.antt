@@ -1,8 +1,5 @@
-use Rattle.std.proofs.Common.{ℕ, ◌+◌, sym, ap, ◌∙◌, subst, arith, None, Some}
-use Rattle.std.proofs.lemmas.Option.{slice_get-get_or}
-use Rattle.ac_automaton.specs.Util.{Node}
-use Rattle.ac_automaton.specs.Committing.{IsMade, MakesNext, IsViewOf, lists_of, ListsView, made_of}
-use Rattle.ac_automaton.specs.Tries.{TrieView}
+use Rattle.ac_util.proofs.Prelude.{ℕ, ◌+◌, sym, ap, ◌∙◌, subst, arith, None, Some, slice_get-get_or}
+use Rattle.ac_automaton.specs.Prelude.{Node, IsMade, MakesNext, IsViewOf, lists_of, ListsView, made_of, TrieView}
 use Rattle.ac_automaton.proofs.CommitSteps.{number-alive}
 use Rattle.ac_automaton.proofs.nfa.noncontiguous.commits.Making.add_all.Given.{Over}
 use Rattle.ac_automaton.proofs.nfa.noncontiguous.commits.Making.add_all.Goals as goal

@@ -1,6 +1,5 @@
-use Rattle.std.proofs.Common.{◌≡◌}
-use Rattle.ac_automaton.specs.Committing.{IsMade, IsViewOf, lists_of, made_of}
-use Rattle.ac_automaton.specs.Tries.{TrieView}
+use Rattle.ac_util.proofs.Prelude.{◌≡◌}
+use Rattle.ac_automaton.specs.Prelude.{IsMade, IsViewOf, lists_of, made_of, TrieView}
 use Rattle.ac_automaton.proofs.nfa.noncontiguous.commits.Making.add_all.Given as goal
 
 -- the states below the number have given commits to their children

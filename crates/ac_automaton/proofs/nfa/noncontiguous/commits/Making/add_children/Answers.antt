@@ -1,8 +1,5 @@
-use Rattle.std.proofs.Common.{◌≡◌, ℕ, List, length, refl, ap, sym, ◌∙◌, subst, arith, Some, slice_get, get_or}
-use Rattle.std.proofs.lemmas.Option.{slice_get_read, slice_get_within}
-use Rattle.ac_automaton.specs.Committing.{IsChild, IsCommitAt, IsDone, MakesNext, HasString, made_of}
-use Rattle.ac_automaton.specs.Prelude.{IsNumbered, Represents, State, transitions_of}
-use Rattle.ac_automaton.specs.declared.nfa.noncontiguous.state.Transition.{Transition}
+use Rattle.ac_util.proofs.Prelude.{◌≡◌, ℕ, List, length, refl, ap, sym, ◌∙◌, subst, arith, Some, slice_get, get_or, slice_get_read, slice_get_within}
+use Rattle.ac_automaton.specs.Prelude.{IsChild, IsCommitAt, IsDone, MakesNext, HasString, made_of, IsNumbered, Represents, State, transitions_of, Transition}
 use Rattle.ac_automaton.proofs.Chains.{has-same}
 use Rattle.ac_automaton.proofs.CommitAdding.{added-next, children-made, children-none, done-kept, transition-child}
 use Rattle.ac_automaton.proofs.CommitSteps.{commit-kept, state-in}

@@ -1,5 +1,5 @@
-use Rattle.std.proofs.Common.{◌≡◌}
-use Rattle.ac_automaton.specs.Committing.{MakesNext, lists_of, made_of}
+use Rattle.ac_util.proofs.Prelude.{◌≡◌}
+use Rattle.ac_automaton.specs.Prelude.{MakesNext, lists_of, made_of}
 use Rattle.ac_automaton.proofs.CommitAdding.{HasAddedFirst}
 use Rattle.ac_automaton.proofs.nfa.noncontiguous.commits.Making.add_children.Given as goal
 

@@ -1,5 +1,4 @@
-use Rattle.std.proofs.Common.{◌-◌, inr, refl, sym, ◌∙◌, arith, Some, get_or}
-use Rattle.std.proofs.lemmas.Option.{slice_get_within}
+use Rattle.ac_util.proofs.Prelude.{◌-◌, inr, refl, sym, ◌∙◌, arith, Some, get_or, slice_get_within}
 use Rattle.ac_automaton.proofs.Committing.{holds-made, holds-match, read-index}
 use Rattle.ac_automaton.proofs.TrieStates.{number-state}
 use Rattle.ac_automaton.proofs.nfa.noncontiguous.commits.Making.held.Goals as goal

@@ -1,8 +1,5 @@
-use Rattle.std.proofs.Common.{◌≡◌, ◌-◌, ◌≤◌, List, map, All, refl, ap, sym, subst, arith, None, Some, slice_get}
-use Rattle.ac_automaton.specs.declared.automaton.commits.ChainMatch.{ChainMatch}
-use Rattle.ac_automaton.specs.declared.nfa.noncontiguous.commits.Making.{Making}
-use Rattle.ac_automaton.specs.Commits.{GrowsBy, IsChainMatch, shifted}
-use Rattle.ac_automaton.specs.Committing.{AreMade, HasCommit, HasString, LeadsToChild, lists_of, made_of, NeedsOne}
+use Rattle.ac_util.proofs.Prelude.{◌≡◌, ◌-◌, ◌≤◌, List, map, All, refl, ap, sym, subst, arith, None, Some, slice_get}
+use Rattle.ac_automaton.specs.Prelude.{ChainMatch, Making, GrowsBy, IsChainMatch, shifted, AreMade, HasCommit, HasString, LeadsToChild, lists_of, made_of, NeedsOne}
 use Rattle.ac_automaton.proofs.Chains.{chain-same, chains-longer, grows-more}
 use Rattle.ac_automaton.proofs.CommitSteps.{child-few, held-before, held-short, made-kept, may-commit, OnWay, state-in, way-ends, way-none, way-on, way-picks, way-starts, way-state, way-step}
 use Rattle.ac_automaton.proofs.TrieStates.{dead-number}

@@ -1,5 +1,5 @@
-use Rattle.std.proofs.Common.{◌≡◌}
-use Rattle.ac_automaton.specs.Committing.{LeadsToChild}
+use Rattle.ac_util.proofs.Prelude.{◌≡◌}
+use Rattle.ac_automaton.specs.Prelude.{LeadsToChild}
 use Rattle.ac_automaton.proofs.CommitSteps.{OnWay}
 use Rattle.ac_automaton.proofs.nfa.noncontiguous.commits.Making.lead_on.Given as goal
 

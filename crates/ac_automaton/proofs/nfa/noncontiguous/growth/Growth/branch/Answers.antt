@@ -1,6 +1,5 @@
-use Rattle.std.proofs.Common.{◌≡◌, ℕ, List, [], ◌∷◌, ◌++◌, length, length-append, refl, ap, sym, ◌∙◌, subst, arith, Some, slice_get, rules}
-use Rattle.ac_automaton.specs.Prelude.{EndsPatterns, grown_view, HasBranched, HasChild, HasSorted, IsRefused, fallback, nodes_of, Source, source_of, too_many_states, word}
-use Rattle.ac_automaton.specs.Growths.{IsQueueReady}
+use Rattle.ac_util.proofs.Prelude.{◌≡◌, ℕ, List, [], ◌∷◌, ◌++◌, length, length-append, refl, ap, sym, ◌∙◌, subst, arith, Some, slice_get, rules}
+use Rattle.ac_automaton.specs.Prelude.{EndsPatterns, grown_view, HasBranched, HasChild, HasSorted, IsRefused, fallback, nodes_of, Source, source_of, too_many_states, word, IsQueueReady}
 use Rattle.ac_automaton.proofs.Branched.{has-branched, link-due, still-meant, whole_state}
 use Rattle.ac_automaton.proofs.Branching.{IsBranching, IsBranchingFrom, IsRun, Site, branching-begins, child-deep, goes-on, has-child, string}
 use Rattle.ac_automaton.proofs.ChildTransitions.{branching-goes_on}

@@ -1,5 +1,5 @@
-use Rattle.std.proofs.Common.{◌≡◌, ◌-◌}
-use Rattle.ac_automaton.specs.Growths.{source_of}
+use Rattle.ac_util.proofs.Prelude.{◌≡◌, ◌-◌}
+use Rattle.ac_automaton.specs.Prelude.{source_of}
 use Rattle.ac_automaton.proofs.Branching.{IsBranchingFrom}
 use Rattle.ac_automaton.proofs.nfa.noncontiguous.growth.Growth.branch.Given as goal
 

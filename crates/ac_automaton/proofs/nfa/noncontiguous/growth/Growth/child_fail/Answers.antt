@@ -1,7 +1,5 @@
-use Rattle.std.proofs.Common.{◌≢◌, refl, sym, ◌∙◌, ap, Some, slice_get, rules}
-use Rattle.std.proofs.lemmas.Bool.{false≢true}
-use Rattle.ac_automaton.specs.Util.{No, Node, step}
-use Rattle.ac_automaton.specs.Prelude.{grown_view, fallback, nodes_of, word}
+use Rattle.ac_util.proofs.Prelude.{◌≢◌, refl, sym, ◌∙◌, ap, Some, slice_get, rules, false≢true}
+use Rattle.ac_automaton.specs.Prelude.{No, Node, step, grown_view, fallback, nodes_of, word}
 use Rattle.ac_automaton.proofs.Places.{None-tested, Some-tested}
 use Rattle.ac_automaton.proofs.ChildFails.{fail-pattern, fail-start, fail-step, fail-state}
 use Rattle.ac_automaton.proofs.nfa.noncontiguous.growth.Growth.child_fail.Goals as goal

@@ -1,8 +1,5 @@
-use Rattle.std.proofs.Common.{◌≡◌, ◌+◌, ◌≤◌, ◌++◌, [], ◌∷◌, Bool, ℕ, List, length, map, sym, ◌∙◌, ap, subst, arith, Some, slice_get, rules}
-use Rattle.std.proofs.lemmas.Option.{slice_get_read}
-use Rattle.std.proofs.lemmas.Grind.{common_steps}
-use Rattle.ac_automaton.specs.Util.{MatchKind, plain}
-use Rattle.ac_automaton.specs.Prelude.{IsOrder, IsRefused, IsWhole, MayBranch, numbers, Sorted, Source, too_many_states}
+use Rattle.ac_util.proofs.Prelude.{◌≡◌, ◌+◌, ◌≤◌, ◌++◌, [], ◌∷◌, Bool, ℕ, List, length, map, sym, ◌∙◌, ap, subst, arith, Some, slice_get, rules, slice_get_read, common_steps}
+use Rattle.ac_automaton.specs.Prelude.{MatchKind, plain, IsOrder, IsRefused, IsWhole, MayBranch, numbers, Sorted, Source, too_many_states}
 use Rattle.ac_automaton.proofs.Places.{refused-by}
 use Rattle.ac_automaton.proofs.WholeTries.{IsGoingFrom, begun-order, going-on, going-ready, start-going, start-ready, sorted-plain, whole-few, whole-trie}
 use Rattle.ac_automaton.proofs.nfa.noncontiguous.growth.Growth.grow.Given.{Over}

@@ -1,5 +1,5 @@
-use Rattle.std.proofs.Common.{◌≡◌, ◌-◌, ◌+◌}
-use Rattle.ac_util.specs.declared.primitives.TheConstants.{GREATEST}
+use Rattle.ac_util.proofs.Prelude.{◌≡◌, ◌-◌, ◌+◌}
+use Rattle.ac_automaton.specs.Prelude.{GREATEST}
 use Rattle.ac_automaton.proofs.WholeTries.{IsGoingFrom}
 use Rattle.ac_automaton.proofs.nfa.noncontiguous.growth.Growth.grow.Given as goal
 

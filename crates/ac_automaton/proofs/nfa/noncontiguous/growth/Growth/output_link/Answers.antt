@@ -1,4 +1,4 @@
-use Rattle.std.proofs.Common.{◌<◌, ◌≤◌, length, subst, sym, arith, Some, rules}
+use Rattle.ac_util.proofs.Prelude.{◌<◌, ◌≤◌, length, subst, sym, arith, Some, rules}
 use Rattle.ac_automaton.specs.Prelude.{Links, State}
 use Rattle.ac_automaton.proofs.Grown.{state-read}
 use Rattle.ac_automaton.proofs.Linking.{link-here, link-beyond}

@@ -1,5 +1,4 @@
-use Rattle.std.proofs.Common.{sym, ◌∙◌, arith}
-use Rattle.std.proofs.lemmas.Bool.{false≢true}
+use Rattle.ac_util.proofs.Prelude.{sym, ◌∙◌, arith, false≢true}
 use Rattle.ac_automaton.proofs.Places.{None-tested, Some-tested}
 use Rattle.ac_automaton.proofs.Starting.{waits-dead, waits-start}
 use Rattle.ac_automaton.proofs.nfa.noncontiguous.growth.Growth.start.Goals as goal

@@ -1,6 +1,5 @@
 -- The view's numbers are those of the stored patterns.
-use Rattle.std.proofs.Common.{rules}
-use Rattle.std.proofs.lemmas.List.{length-map}
+use Rattle.ac_util.proofs.Prelude.{rules, length-map}
 use Rattle.ac_automaton.proofs.Sorting.{sorted_number}
 use Rattle.ac_automaton.proofs.nfa.noncontiguous.sorted.SortedPatterns.number.Goals as goal
 

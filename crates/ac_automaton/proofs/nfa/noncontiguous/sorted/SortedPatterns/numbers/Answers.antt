@@ -1,5 +1,4 @@
-use Rattle.std.proofs.lemmas.Grind.{common_steps}
-use Rattle.std.proofs.Common.{arith, rules}
+use Rattle.ac_util.proofs.Prelude.{common_steps, arith, rules}
 use Rattle.ac_automaton.proofs.Places.{take-next}
 use Rattle.ac_automaton.proofs.nfa.noncontiguous.sorted.SortedPatterns.numbers.Goals as goal
 

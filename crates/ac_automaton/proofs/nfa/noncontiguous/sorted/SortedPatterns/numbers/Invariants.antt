@@ -1,5 +1,5 @@
-use Rattle.std.proofs.Common.{◌≡◌, take}
-use Rattle.ac_automaton.specs.Sorted.{numbers}
+use Rattle.ac_util.proofs.Prelude.{◌≡◌, take}
+use Rattle.ac_automaton.specs.Prelude.{numbers}
 use Rattle.ac_automaton.proofs.nfa.noncontiguous.sorted.SortedPatterns.numbers.Given as goal
 
 abbrev pub invariant-loop-place : goal.invariant-loop-place

@@ -1,8 +1,7 @@
 -- Only under LeftmostFirst are there patterns that take no part.
-use Rattle.std.proofs.Common.{map, sym, subst}
+use Rattle.ac_util.proofs.Prelude.{map, sym, subst}
+use Rattle.ac_automaton.specs.Prelude.{plain, Standard, AreSorted}
 use Rattle.std.proofs.lemmas.Result.{IfOk-weaker}
-use Rattle.ac_automaton.specs.Util.{plain, Standard}
-use Rattle.ac_automaton.specs.Sorted.{AreSorted}
 use Rattle.ac_automaton.proofs.Keeping.{IsOrder-all}
 use Rattle.ac_automaton.proofs.nfa.noncontiguous.sorted.SortedPatterns.of.Goals as goal
 

@@ -1,7 +1,6 @@
 -- What is kept of the patterns is in order where all patterns were.
-use Rattle.std.proofs.Common.{ap, map, sym, ◌∙◌, subst}
-use Rattle.ac_automaton.specs.Util.{plain, Standard}
-use Rattle.ac_automaton.specs.Sorted.{IsOrder, Sorted}
+use Rattle.ac_util.proofs.Prelude.{ap, map, sym, ◌∙◌, subst}
+use Rattle.ac_automaton.specs.Prelude.{plain, Standard, IsOrder, Sorted}
 use Rattle.ac_automaton.proofs.nfa.noncontiguous.sorted.SortedPatterns.participating.Goals as goal
 
 pub returns : goal.returns

@@ -1,6 +1,6 @@
 -- The loop has passed only patterns with the first one's byte.
-use Rattle.std.proofs.Common.{◌-◌, ◌≡◌, ℕ, ◌<◌, ◌≤◌}
-use Rattle.ac_automaton.specs.Sorted.{byte_at}
+use Rattle.ac_util.proofs.Prelude.{◌-◌, ◌≡◌, ℕ, ◌<◌, ◌≤◌}
+use Rattle.ac_automaton.specs.Prelude.{byte_at}
 use Rattle.ac_automaton.proofs.nfa.noncontiguous.sorted.SortedPatterns.run_end.Given as goal
 
 abbrev pub invariant-loop-at : goal.invariant-loop-at

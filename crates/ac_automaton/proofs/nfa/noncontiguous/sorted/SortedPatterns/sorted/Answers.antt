@@ -1,7 +1,7 @@
 -- The sort by the comparison puts the listed patterns in order.
-use Rattle.std.proofs.Common.{◌≤◌, length, refl, rules, arith}
+use Rattle.ac_util.proofs.Prelude.{◌≤◌, length, refl, rules, arith}
+use Rattle.ac_automaton.specs.Prelude.{GREATEST}
 use Rattle.std.proofs.lemmas.List.Sorted.{All-permutation}
-use Rattle.ac_util.specs.declared.primitives.TheConstants.{GREATEST}
 use Rattle.ac_automaton.proofs.Sorting.{IsOrder-from_sorted, IsSortedBy-from_calls}
 use Rattle.ac_automaton.proofs.nfa.noncontiguous.sorted.SortedPatterns.sorted.Goals as goal
 

@@ -1,6 +1,5 @@
-use Rattle.std.proofs.Common.{rules, arith}
-use Rattle.std.proofs.lemmas.Grind.{common_steps}
-use Rattle.ac_util.specs.Patterns.{bytes_of}
+use Rattle.ac_util.proofs.Prelude.{rules, arith, common_steps}
+use Rattle.ac_engines.specs.Prelude.{bytes_of}
 use Rattle.ac_engines.proofs.PackedBuilt.{packed-built}
 use Rattle.ac_engines.proofs.nfa.contiguous.builder.Builder.build.Goals as goal
 

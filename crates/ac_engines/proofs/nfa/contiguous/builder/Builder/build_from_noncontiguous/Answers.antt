@@ -1,14 +1,5 @@
-use Rattle.std.proofs.Common.{◌≡◌, ◌∙◌, ℕ, ◌≤◌, Err, List, ap, sym, subst, arith, rules}
-use Rattle.ac_automaton.specs.declared.nfa.noncontiguous.state.TheConstants.{ANCHORED_START, START}
-use Rattle.ac_automaton.specs.Commits.{HasCommits}
-use Rattle.ac_automaton.specs.Prelude.{common_of, Trie}
-use Rattle.ac_automaton.specs.Tries.{automaton_of}
-use Rattle.ac_engines.specs.Commits.{AreRenumbered}
-use Rattle.std.proofs.lemmas.Grind.{common_steps}
-use Rattle.ac_util.specs.declared.error.BuildError.TheVariants.{Memory}
-use Rattle.ac_automaton.specs.Util.{GREATEST, Node}
-use Rattle.ac_engines.specs.Contiguous.Plans.{all_words}
-use Rattle.ac_engines.specs.Prelude.{AreReady, contiguous_of, ContiguousSettings, ContiguousView, IsContiguous, MayPack, packed_of, Packer, PackPlan, places_of}
+use Rattle.ac_util.proofs.Prelude.{◌≡◌, ◌∙◌, ℕ, ◌≤◌, Err, List, ap, sym, subst, arith, rules, common_steps}
+use Rattle.ac_engines.specs.Prelude.{ANCHORED_START, START, HasCommits, common_of, Trie, automaton_of, AreRenumbered, Memory, GREATEST, Node, all_words, AreReady, contiguous_of, ContiguousSettings, ContiguousView, IsContiguous, MayPack, packed_of, Packer, PackPlan, places_of}
 use Rattle.ac_engines.proofs.EngineCommits.{contiguous-commits, StandsPacked}
 use Rattle.ac_engines.proofs.PackedBuilding.{memory-answers, packed-same, read-number, starts-placed}
 use Rattle.ac_engines.proofs.nfa.contiguous.builder.Builder.build_from_noncontiguous.Goals as goal

@@ -1,7 +1,5 @@
-use Rattle.std.proofs.Common.{ap, sym, subst, ◌∙◌, Some}
-use Rattle.ac_util.specs.Classes.{class_at}
-use Rattle.ac_automaton.specs.Prelude.{AreNodes, IsOwn, Trie}
-use Rattle.ac_engines.specs.Prelude.{Packer, PackPlan}
+use Rattle.ac_util.proofs.Prelude.{ap, sym, subst, ◌∙◌, Some}
+use Rattle.ac_engines.specs.Prelude.{class_at, AreNodes, IsOwn, Trie, Packer, PackPlan}
 use Rattle.ac_engines.proofs.PackedNodes.{edge-at, own-numbered, string-of}
 use Rattle.ac_engines.proofs.nfa.contiguous.pack.Packer.edge.Goals as goal
 

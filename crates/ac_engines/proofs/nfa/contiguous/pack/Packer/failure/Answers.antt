@@ -1,7 +1,5 @@
-use Rattle.std.proofs.Common.{◌≡◌, ap, sym, subst, arith, ◌∙◌, ◌∷◌, Some, slice_get}
-use Rattle.ac_util.specs.Node.{failure}
-use Rattle.ac_automaton.specs.Prelude.{AreNodes, plain_of, Trie}
-use Rattle.ac_engines.specs.Prelude.{Packer, PackPlan}
+use Rattle.ac_util.proofs.Prelude.{◌≡◌, ap, sym, subst, arith, ◌∙◌, ◌∷◌, Some, slice_get}
+use Rattle.ac_engines.specs.Prelude.{failure, AreNodes, plain_of, Trie, Packer, PackPlan}
 use Rattle.ac_engines.proofs.PackedNodes.{failure-packed_state}
 use Rattle.ac_engines.proofs.nfa.contiguous.pack.Packer.failure.Goals as goal
 

@@ -1,7 +1,6 @@
-use Rattle.std.proofs.Common.{ap, sym, subst, arith, ◌∙◌, take_all, length}
-use Rattle.ac_automaton.specs.Prelude.{AreNodes, HasOwn, transition_bytes_of, Trie}
+use Rattle.ac_util.proofs.Prelude.{ap, sym, subst, arith, ◌∙◌, take_all, length}
+use Rattle.ac_engines.specs.Prelude.{AreNodes, HasOwn, transition_bytes_of, Trie, Packer, PackPlan, packed_state}
 use Rattle.ac_automaton.proofs.Places.{take-next}
-use Rattle.ac_engines.specs.Prelude.{Packer, PackPlan, packed_state}
 use Rattle.ac_engines.proofs.PackedNodes.{edges-count}
 use Rattle.ac_engines.proofs.nfa.contiguous.pack.Packer.list_edges.Goals as goal
 

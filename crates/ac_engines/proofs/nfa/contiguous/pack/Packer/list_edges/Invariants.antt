@@ -1,6 +1,5 @@
-use Rattle.std.proofs.Common.{◌≡◌, List, take, Some, slice_get}
-use Rattle.ac_util.specs.Node.{Node}
-use Rattle.ac_engines.specs.Contiguous.Packs.{AreReady, packed_state}
+use Rattle.ac_util.proofs.Prelude.{◌≡◌, List, take, Some, slice_get}
+use Rattle.ac_engines.specs.Prelude.{Node, AreReady, packed_state}
 use Rattle.ac_engines.proofs.nfa.contiguous.pack.Packer.list_edges.Given as goal
 
 -- the own transitions so far are listed

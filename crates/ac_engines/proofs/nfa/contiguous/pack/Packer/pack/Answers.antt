@@ -1,6 +1,6 @@
-use Rattle.std.proofs.Common.{List, ℕ, ◌++◌, ◌∙◌, ap, rules}
-use Rattle.ac_util.proofs.ClassLists.{alphabet_len-few}
+use Rattle.ac_util.proofs.Prelude.{List, ℕ, ◌++◌, ◌∙◌, ap, rules}
 use Rattle.ac_engines.specs.Prelude.{dead_words}
+use Rattle.ac_util.proofs.ClassLists.{alphabet_len-few}
 use Rattle.ac_engines.proofs.PackedStates.{are-packed, words-long}
 use Rattle.ac_engines.proofs.nfa.contiguous.pack.Packer.pack.Goals as goal
 

@@ -1,6 +1,5 @@
-use Rattle.std.proofs.Common.{ap, sym, subst, ◌∙◌}
-use Rattle.ac_engines.specs.Prelude.{Format, One, Packer}
-use Rattle.ac_engines.specs.Contiguous.Plans.{HasFormat}
+use Rattle.ac_util.proofs.Prelude.{ap, sym, subst, ◌∙◌}
+use Rattle.ac_engines.specs.Prelude.{Format, One, Packer, HasFormat}
 use Rattle.ac_engines.proofs.PackedForms.{no-matches}
 use Rattle.ac_engines.proofs.nfa.contiguous.pack.Packer.push.Goals as goal
 

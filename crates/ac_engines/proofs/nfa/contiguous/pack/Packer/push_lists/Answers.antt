@@ -1,16 +1,10 @@
-use Rattle.std.proofs.Common.{◌≡◌, ◌++◌, sym, subst, ◌∙◌, [], ap, List, map, Some, IfOk, slice_get}
-use Rattle.std.specs.List.Sorted.{IsStrictlyIncreasing}
-use Rattle.ac_automaton.specs.Util.{alphabet_len, No, Node, Yes}
-use Rattle.ac_automaton.specs.Prelude.{AreNodes, matches_of, Trie}
-use Rattle.ac_engines.specs.Prelude.{AreReady, Edge, format_for, MayPack, packed_of, Packer, PackPlan, places_of, packed_state}
-use Rattle.ac_engines.specs.Listed.{HasNode}
+use Rattle.ac_util.proofs.Prelude.{◌≡◌, ◌++◌, sym, subst, ◌∙◌, [], ap, List, map, Some, IfOk, slice_get, IsStrictlyIncreasing, if◌then◌else◌, nat_eq}
+use Rattle.ac_engines.specs.Prelude.{alphabet_len, No, Node, Yes, AreNodes, matches_of, Trie, AreReady, Edge, format_for, MayPack, packed_of, Packer, PackPlan, places_of, packed_state, HasNode, ANCHORED_START}
 use Rattle.ac_engines.proofs.PackedForms.{format_words-by_parts, state-spells}
 use Rattle.ac_engines.proofs.PackedNodes.{matches-packed_at}
 use Rattle.ac_engines.proofs.nfa.contiguous.pack.Packer.push_lists.Given.{Over}
 use Rattle.ac_engines.proofs.nfa.contiguous.pack.Packer.push_lists.Goals.{After-alphabet_len}
 use Rattle.ac_engines.proofs.nfa.contiguous.pack.Packer.push_lists.Goals as goal
-use Rattle.std.specs.Prelude.{if◌then◌else◌, nat_eq}
-use Rattle.ac_automaton.specs.declared.nfa.noncontiguous.state.TheConstants.{ANCHORED_START}
 
 module _ (g : Over) (c : After-alphabet_len g) (nodes : List Node) (u : Node) (ready : AreReady c.args.self.now nodes)
     (named : slice_get nodes c.args.sid ≡ Some u) where

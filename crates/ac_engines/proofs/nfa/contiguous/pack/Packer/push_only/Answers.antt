@@ -1,4 +1,4 @@
-use Rattle.std.proofs.Common.{◌≡◌, ◌++◌, subst, arith, IfOk}
+use Rattle.ac_util.proofs.Prelude.{◌≡◌, ◌++◌, subst, arith, IfOk}
 use Rattle.ac_engines.proofs.PackedForms.{one-edge, spells-one}
 use Rattle.ac_engines.proofs.PackedNodes.{edges-count}
 use Rattle.ac_engines.proofs.nfa.contiguous.pack.Packer.push_only.Goals as goal

@@ -1,7 +1,6 @@
-use Rattle.std.proofs.Common.{◌≡◌, ◌++◌, ap, sym, subst, ◌∙◌, arith, length, Some, slice_get}
-use Rattle.std.specs.Cmp.{booleans_Decides}
-use Rattle.std.proofs.lemmas.Bool.{false≢true}
+use Rattle.ac_util.proofs.Prelude.{◌≡◌, ◌++◌, ap, sym, subst, ◌∙◌, arith, length, Some, slice_get, false≢true}
 use Rattle.ac_engines.specs.Prelude.{has_matches, HasPushedUpTo, HasWords, MayPack, Packer, PackPlan, state_words}
+use Rattle.std.specs.Cmp.{booleans_Decides}
 use Rattle.ac_engines.proofs.PlanSums.{has-words, named-below, plan-states}
 use Rattle.ac_engines.proofs.Pushing.{passed-over, pushed-next, pushed-none}
 use Rattle.ac_engines.proofs.nfa.contiguous.pack.Packer.push_where.Goals.{then-is_match-front+in_ok-push, else-is_match-front}

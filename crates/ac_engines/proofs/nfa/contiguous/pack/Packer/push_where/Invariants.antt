@@ -1,6 +1,5 @@
-use Rattle.std.proofs.Common.{List}
-use Rattle.ac_util.specs.Node.{Node}
-use Rattle.ac_engines.specs.Contiguous.Packs.{AreReady, HasPushedUpTo}
+use Rattle.ac_util.proofs.Prelude.{List}
+use Rattle.ac_engines.specs.Prelude.{Node, AreReady, HasPushedUpTo}
 use Rattle.ac_engines.proofs.nfa.contiguous.pack.Packer.push_where.Given as goal
 
 -- those of the states so far that are asked for were pushed

@@ -1,5 +1,5 @@
-use Rattle.std.proofs.Common.{◌≡◌, ap, length, Some, slice_get, true, false, arith, rules}
-use Rattle.ac_engines.specs.Contiguous.Plans.{before}
+use Rattle.ac_util.proofs.Prelude.{◌≡◌, ap, length, Some, slice_get, true, false, arith, rules}
+use Rattle.ac_engines.specs.Prelude.{before}
 use Rattle.ac_engines.proofs.PlanSums.{before-both, before-starts, has-words, named-below, plan-states, sizes-whole}
 use Rattle.ac_engines.proofs.nfa.contiguous.plan.Plan.all_words.Goals as goal
 

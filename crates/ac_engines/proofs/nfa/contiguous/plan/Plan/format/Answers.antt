@@ -1,7 +1,5 @@
-use Rattle.std.proofs.Common.{◌≡◌, ◌≤◌, length, refl, ap, sym, subst, ◌∙◌, arith}
-use Rattle.ac_util.specs.Node.{depth}
-use Rattle.ac_automaton.specs.Prelude.{AreNodes, transition_bytes_of, Trie}
-use Rattle.ac_engines.specs.Prelude.{format_of, node_format, PackPlan}
+use Rattle.ac_util.proofs.Prelude.{◌≡◌, ◌≤◌, length, refl, ap, sym, subst, ◌∙◌, arith}
+use Rattle.ac_engines.specs.Prelude.{depth, AreNodes, transition_bytes_of, Trie, format_of, node_format, PackPlan}
 use Rattle.ac_engines.proofs.InnerStates.{inner-long}
 use Rattle.ac_engines.proofs.nfa.contiguous.plan.Plan.format.Goals as goal
 

@@ -1,6 +1,5 @@
-use Rattle.std.proofs.Common.{◌≡◌, ◌+◌, Bool, List, None, Some, slice_get, true, false, length, ap, refl, sym, ◌∙◌, arith, rules}
-use Rattle.ac_util.specs.Node.{Node}
-use Rattle.ac_engines.specs.Contiguous.Plans.{before, MayPack, size_of}
+use Rattle.ac_util.proofs.Prelude.{◌≡◌, ◌+◌, Bool, List, None, Some, slice_get, true, false, length, ap, refl, sym, ◌∙◌, arith, rules}
+use Rattle.ac_engines.specs.Prelude.{Node, before, MayPack, size_of}
 use Rattle.ac_engines.proofs.PlanSums.{TakesSize, before-starts, has-words, named-below, plan-states, takes}
 use Rattle.ac_engines.proofs.LaidUpTo.{IsNamed}
 use Rattle.ac_engines.proofs.nfa.contiguous.plan.Plan.front_end.Goals.{then-is_match, else-is_match}

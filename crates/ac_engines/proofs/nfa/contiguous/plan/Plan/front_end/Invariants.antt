@@ -1,6 +1,5 @@
-use Rattle.std.proofs.Common.{◌≡◌, ◌+◌, ◌*◌, ◌≤◌, List, None, true}
-use Rattle.ac_automaton.specs.Util.{GREATEST, Node}
-use Rattle.ac_engines.specs.Contiguous.Plans.{before, MayPack, size_of}
+use Rattle.ac_util.proofs.Prelude.{◌≡◌, ◌+◌, ◌*◌, ◌≤◌, List, None, true}
+use Rattle.ac_engines.specs.Prelude.{GREATEST, Node, before, MayPack, size_of}
 use Rattle.ac_engines.proofs.nfa.contiguous.plan.Plan.front_end.Given as goal
 
 -- the sizes of those states so far are summed that have matches

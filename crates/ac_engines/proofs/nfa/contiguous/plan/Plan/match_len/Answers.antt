@@ -1,6 +1,5 @@
-use Rattle.std.proofs.Common.{ap, arith, length, List, ℕ, sym, ◌∙◌}
-use Rattle.std.proofs.lemmas.Bool.{false≢true}
-use Rattle.ac_automaton.specs.Util.{No}
+use Rattle.ac_util.proofs.Prelude.{ap, arith, length, List, ℕ, sym, ◌∙◌, false≢true}
+use Rattle.ac_engines.specs.Prelude.{No}
 use Rattle.ac_automaton.proofs.Heads.{nil-from_not}
 use Rattle.ac_engines.proofs.MatchCounts.{matches-few}
 use Rattle.ac_engines.proofs.PlanStates.{listed-len, words-stand}

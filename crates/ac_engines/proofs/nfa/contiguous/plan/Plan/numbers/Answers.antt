@@ -1,9 +1,10 @@
-use Rattle.std.proofs.Common.{◌≡◌, ◌+◌, ◌≤◌, ℕ, Bool, List, Some, slice_get, true, false, inl, inr, length, ap, refl, sym, ◌∙◌, arith, rules}
-use Rattle.ac_util.specs.Node.{Node}
-use Rattle.ac_automaton.specs.Util.{BuildError}
-use Rattle.ac_engines.specs.Contiguous.Plans.{IsMemoryUnless, MayPack, all_words, size_of}
+use Rattle.ac_util.proofs.Prelude.{◌≡◌, ◌+◌, ◌≤◌, ℕ, Bool, List, Some, slice_get, true, false, inl, inr, length, ap, refl, sym, ◌∙◌, arith, rules}
+use Rattle.ac_engines.specs.Prelude.{Node, BuildError, MayPack, all_words, size_of}
 use Rattle.ac_engines.proofs.PlanSums.{TakesSize, all-placed, back-within, before-starts, front-within, has-words, named-below, placed-more, places-first, plan-states, takes}
 use Rattle.ac_engines.proofs.nfa.contiguous.plan.Plan.numbers.Goals.{then-is_match+in_ok-push_number, else-is_match+in_ok-push_number-2}
+use Rattle.ac_util.specs.declared.error.BuildError.TheVariants.{Memory}
+use Rattle.std.specs.Prelude.{◌⊎◌, ◌<◌}
+use Rattle.ac_automaton.specs.Util.{GREATEST}
 use Rattle.ac_engines.proofs.nfa.contiguous.plan.Plan.numbers.Goals as goal
 
 -- the first two states have their places
@@ -34,7 +35,8 @@ is_match-requires g c =
     }
 
 -- a number that is too great lies within the words of the plan
-refused-more : (n m k : ℕ) (e : BuildError) → n ≡ k → k ≤ m → IsMemoryUnless n e → IsMemoryUnless m e
+refused-more : (n m k : ℕ) (e : BuildError) → n ≡ k → k ≤ m
+    → (e ≡ Memory) ⊎ (GREATEST < n) → (e ≡ Memory) ⊎ (GREATEST < m)
 refused-more n m k e is within (inl memory) = inl memory
 refused-more n m k e is within (inr great) = inr (omega arith)
 

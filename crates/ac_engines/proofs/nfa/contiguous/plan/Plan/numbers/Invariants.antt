@@ -1,6 +1,5 @@
-use Rattle.std.proofs.Common.{List}
-use Rattle.ac_util.specs.Node.{Node}
-use Rattle.ac_engines.specs.Contiguous.Plans.{MayPack}
+use Rattle.ac_util.proofs.Prelude.{List}
+use Rattle.ac_engines.specs.Prelude.{Node, MayPack}
 use Rattle.ac_engines.proofs.PlanSums.{ArePlaced}
 use Rattle.ac_engines.proofs.nfa.contiguous.plan.Plan.numbers.Given as goal
 

@@ -1,7 +1,5 @@
-use Rattle.std.proofs.Common.{length, ap, sym, subst, ◌∙◌, arith}
-use Rattle.ac_util.specs.Classes.{alphabet_len}
-use Rattle.ac_automaton.specs.Prelude.{AreNodes, transition_bytes_of, Trie}
-use Rattle.ac_engines.specs.Prelude.{PackPlan, words_of_state}
+use Rattle.ac_util.proofs.Prelude.{length, ap, sym, subst, ◌∙◌, arith}
+use Rattle.ac_engines.specs.Prelude.{alphabet_len, AreNodes, transition_bytes_of, Trie, PackPlan, words_of_state}
 use Rattle.ac_engines.proofs.MatchCounts.{transition_bytes_of-few}
 use Rattle.ac_engines.proofs.WordCounts.{node_words-most}
 use Rattle.ac_engines.proofs.nfa.contiguous.plan.Plan.words.Goals as goal

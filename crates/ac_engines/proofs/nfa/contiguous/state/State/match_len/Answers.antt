@@ -1,4 +1,4 @@
-use Rattle.std.proofs.Common.{sym}
+use Rattle.ac_util.proofs.Prelude.{sym}
 use Rattle.ac_engines.proofs.MatchWords.{reads}
 use Rattle.ac_engines.proofs.nfa.contiguous.state.State.match_len.Goals as goal
 

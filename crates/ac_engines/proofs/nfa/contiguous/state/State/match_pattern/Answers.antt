@@ -1,4 +1,4 @@
-use Rattle.std.proofs.Common.{◌≡◌, ◌∙◌, ℕ, ap, arith, slice_index_or}
+use Rattle.ac_util.proofs.Prelude.{◌≡◌, ◌∙◌, ℕ, ap, arith, slice_index_or}
 use Rattle.ac_engines.proofs.MatchWords.{has-some, reads}
 use Rattle.ac_engines.proofs.nfa.contiguous.state.State.match_pattern.Goals as goal
 

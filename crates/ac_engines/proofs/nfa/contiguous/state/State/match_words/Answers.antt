@@ -1,5 +1,4 @@
-use Rattle.std.proofs.Common.{List, ℕ, ap, arith, slice_index_or}
-use Rattle.std.proofs.lemmas.Grind.{common_steps}
+use Rattle.ac_util.proofs.Prelude.{List, ℕ, ap, arith, slice_index_or, common_steps}
 use Rattle.ac_engines.proofs.PackedWords.{dense-lists, has-failure, low-byte, sparse-lists}
 use Rattle.ac_engines.proofs.nfa.contiguous.state.State.match_words.Goals as goal
 

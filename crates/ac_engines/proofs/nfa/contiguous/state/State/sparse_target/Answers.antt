@@ -1,5 +1,4 @@
-use Rattle.std.proofs.Common.{refl, ◌+◌, ◌*◌, List, ℕ, Some, ap, sym, ◌∙◌, arith, slice_index_or}
-use Rattle.std.proofs.lemmas.List.{get_or_append_left, length-append}
+use Rattle.ac_util.proofs.Prelude.{refl, ◌+◌, ◌*◌, List, ℕ, Some, ap, sym, ◌∙◌, arith, slice_index_or, get_or_append_left, length-append}
 use Rattle.ac_engines.specs.Prelude.{FAIL, target_by}
 use Rattle.ac_engines.proofs.ClassWords.{none-left, target-named, place-found, place-missed, place-within, targets_of}
 use Rattle.ac_engines.proofs.PackedWords.{named-none, named-some, splits-at}

@@ -1,4 +1,4 @@
-use Rattle.std.proofs.Common.{◌≡◌, ℕ, ◌*◌, drop, length}
+use Rattle.ac_util.proofs.Prelude.{◌≡◌, ℕ, ◌*◌, drop, length}
 use Rattle.ac_engines.specs.Prelude.{BeginsWith, FAIL, Sparse, PackedState, target_by}
 use Rattle.ac_engines.proofs.nfa.contiguous.state.State.sparse_target.Given as goal
 

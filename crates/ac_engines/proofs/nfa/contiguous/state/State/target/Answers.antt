@@ -1,7 +1,5 @@
-use Rattle.std.proofs.Common.{◌∙◌, List, ℕ, Some, ap, sym, arith, slice_index_or}
-use Rattle.std.proofs.lemmas.Grind.{common_steps}
-use Rattle.ac_engines.specs.Contiguous.Words.{target_by}
-use Rattle.ac_engines.specs.Contiguous.Reads.{named}
+use Rattle.ac_util.proofs.Prelude.{◌∙◌, List, ℕ, Some, ap, sym, arith, slice_index_or, common_steps}
+use Rattle.ac_engines.specs.Prelude.{target_by, named}
 use Rattle.ac_engines.proofs.PackedWords.{has-failure, named-none, named-some, leads-at, leads-one, is-dense, is-one, is-sparse}
 use Rattle.ac_engines.proofs.nfa.contiguous.state.State.target.Goals as goal
 

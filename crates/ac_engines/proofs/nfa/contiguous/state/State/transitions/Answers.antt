@@ -1,6 +1,4 @@
-use Rattle.std.proofs.Common.{◌≡◌, ◌+◌, ◌-◌, ◌∙◌, List, ℕ, length, take, drop, refl, ap, sym, arith, slice_index_or}
-use Rattle.std.proofs.lemmas.List.{length-map}
-use Rattle.std.proofs.lemmas.Grind.{common_steps}
+use Rattle.ac_util.proofs.Prelude.{◌≡◌, ◌+◌, ◌-◌, ◌∙◌, List, ℕ, length, take, drop, refl, ap, sym, arith, slice_index_or, length-map, common_steps}
 use Rattle.ac_engines.proofs.PackedWords.{dense-lists, has-failure, is-one, is-sparse, leads-one, low-byte, splits-at}
 use Rattle.ac_engines.proofs.Transitions.{dense-transitions, one-transition, sparse-targets, sparse-transitions}
 use Rattle.ac_engines.proofs.nfa.contiguous.state.State.transitions.Goals as goal

@@ -1,4 +1,4 @@
-use Rattle.std.proofs.Common.{◌≡◌, List, ℕ, subst, sym, arith}
+use Rattle.ac_util.proofs.Prelude.{◌≡◌, List, ℕ, subst, sym, arith}
 use Rattle.ac_engines.specs.Prelude.{BeginsWith, Sparse}
 use Rattle.ac_engines.proofs.Vectors.{five-named, five_edges, sparse-begins, sparse_words}
 use Rattle.ac_engines.proofs.nfa.contiguous.state.tests.a_class_leads_to_its_target_or_to_none.Goals as goal

@@ -1,5 +1,5 @@
-use Rattle.std.proofs.Common.{List, ℕ, subst, sym, arith}
-use Rattle.ac_engines.specs.Contiguous.Words.{BeginsWith}
+use Rattle.ac_util.proofs.Prelude.{List, ℕ, subst, sym, arith}
+use Rattle.ac_engines.specs.Prelude.{BeginsWith}
 use Rattle.ac_engines.proofs.nfa.contiguous.state.tests.lists.Goals as goal
 
 -- the state has as many matches as are wanted

@@ -1,5 +1,5 @@
-use Rattle.std.proofs.Common.{[], ◌∷◌, arith}
-use Rattle.ac_engines.specs.declared.nfa.contiguous.format.Format.TheVariants.{Dense, One, Sparse}
+use Rattle.ac_util.proofs.Prelude.{[], ◌∷◌, arith}
+use Rattle.ac_engines.specs.Prelude.{Dense, One, Sparse}
 use Rattle.ac_engines.proofs.MatchWords.{has-some}
 use Rattle.ac_engines.proofs.Vectors.{bare-begins, dense-begins, five_edges, no_edges, one-begins, one_edge, sparse-begins, three_classes}
 use Rattle.ac_engines.proofs.nfa.contiguous.state.tests.states_are_read.Goals as goal

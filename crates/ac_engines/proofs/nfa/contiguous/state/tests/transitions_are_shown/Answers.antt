@@ -1,4 +1,4 @@
-use Rattle.std.proofs.Common.{List, ℕ, subst, sym}
+use Rattle.ac_util.proofs.Prelude.{List, ℕ, subst, sym}
 use Rattle.ac_engines.specs.Prelude.{BeginsWith, Dense}
 use Rattle.ac_engines.proofs.Vectors.{dense-begins, three_classes}
 use Rattle.ac_engines.proofs.nfa.contiguous.state.tests.transitions_are_shown.Goals as goal

@@ -1,4 +1,4 @@
-use Rattle.std.proofs.Common.{rules}
+use Rattle.ac_util.proofs.Prelude.{rules}
 use Rattle.ac_engines.proofs.Transitions.{first-edge, goes-on, none-left}
 use Rattle.ac_engines.proofs.nfa.contiguous.transitions.TransitionsIterator.next.Goals as goal
 
