@@ -51,7 +51,9 @@ fn plain_walk(
     kind: MatchKind,
     patterns: &[&[u8]],
     stream: &[u8],
-) -> Result<Vec<Match>, AllocError> {
+) -> Result<Vec<Match>, AllocError>
+    requires few { length patterns.now ≤ 2 }
+{
     let query = Query::new(patterns, false, stream, Anchored::No, all_of(stream));
     walk(alloc, kind, &query)
 }
@@ -67,7 +69,9 @@ fn sure_of(
     patterns: &[&[u8]],
     stream: &[u8],
     walk: &[Match],
-) -> Result<usize, AllocError> {
+) -> Result<usize, AllocError>
+    requires few { length patterns.now ≤ 2 }
+{
     let before = &stream[..stream.len().saturating_sub(1)];
     let mut sure = walk.len();
     for number in 0..ENDINGS {
