@@ -1,5 +1,5 @@
 //! What C relies on, and what follows from the definitions of what is due, as contracts of functions that do nothing.
-ghost use Rattle.std.specs.Prelude.{◌≡◌};
+ghost use Rattle.std.specs.Prelude.{◌≡◌, pos};
 ghost use Rattle.ac_c.specs.Batches.{BeginsWithAll, listing_due, walk_due};
 ghost use Rattle.ac_c.specs.Searches.{overlapping_in, walked_in};
 ghost use Rattle.ac_c.specs.declared.status.TheConstants.{ANCHORED, ARGUMENTS, FOUND, LIMIT, MEMORY, OK, OVERLAPPING, UNANCHORED};
@@ -15,7 +15,7 @@ pub fn batches_begin_with_all()
 
 /// The statuses have these numbers, which the header of the C library names.
 pub fn statuses_are_numbered()
-    ensures done { (OK ≡ 0) × (FOUND ≡ 1) }
-    ensures wrong { (ARGUMENTS ≡ 2) × (MEMORY ≡ 3) × (LIMIT ≡ 4) }
-    ensures refused { (ANCHORED ≡ 5) × (UNANCHORED ≡ 6) × (OVERLAPPING ≡ 7) }
+    ensures done { (OK ≡ pos 0) × (FOUND ≡ pos 1) }
+    ensures wrong { (ARGUMENTS ≡ pos 2) × (MEMORY ≡ pos 3) × (LIMIT ≡ pos 4) }
+    ensures refused { (ANCHORED ≡ pos 5) × (UNANCHORED ≡ pos 6) × (OVERLAPPING ≡ pos 7) }
 {}
