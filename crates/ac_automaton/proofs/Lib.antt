@@ -66,6 +66,7 @@ pub mod StreamKnown
 pub mod StreamNext
 pub mod StreamReserves
 pub mod StreamPast
+pub mod StreamOpen
 pub mod StreamReads
 pub mod StreamRefusals
 pub mod StreamFilling

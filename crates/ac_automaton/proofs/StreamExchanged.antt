@@ -1,7 +1,7 @@
 -- What of a stream was exchanged: once more bytes have come, before any exchange, once all that is settled was, and where it fails
 -- further on.
-use Rattle.ac_util.proofs.Prelude.{◌≡◌, ℕ, ◌≤◌, List, [], ◌++◌, length, take, drop, ap, sym, subst, ◌∙◌, arith, Some, None, Result, Ok, Err, MatchResult, OnOk, slice_range, append-nil, drop_all, common_steps}
-use Rattle.ac_automaton.specs.Prelude.{IsNear, Occurrence, Replacing, StreamError, StartFrom, error_in, FailsToExchange, HasExchanged, HasGivenSettled, HasReplaced, IsSettledIn, matches_so_far, Passing, PassesPiece, Steps, Streaming}
+use Rattle.ac_util.proofs.Prelude.{◌≡◌, ℕ, List, [], ◌++◌, take, drop, ap, sym, subst, ◌∙◌, arith, Some, None, Result, Ok, Err, MatchResult, OnOk, slice_range, append-nil, drop_all, common_steps}
+use Rattle.ac_automaton.specs.Prelude.{IsAllGiven, Occurrence, Replacing, StreamError, StartFrom, error_in, FailsToExchange, HasExchanged, HasGivenSettled, HasReplaced, IsSettledIn, matches_so_far, Passing, PassesPiece, Steps, Streaming}
 use Rattle.ac_automaton.proofs.Gathering.{piece-flushed, piece-none}
 use Rattle.ac_automaton.proofs.StreamExchanging.{replaced-settled, settled-fails}
 
@@ -62,9 +62,7 @@ module _ {E D : Type 0} (passing : Passing E D)
     last-passed : (t : Replacing E D) → PassesPiece passing (slice_range v.bytes v.kept new.kept) s None t
         → passing.held t.closure ≡ [] → HasExchanged passing calls old new start t
     last-passed t passes clear = record {
-      settled = subst (λ (w : Streaming). IsSettledIn w.phase w.built w.bytes w.given new.kept) (sym all.same) all.settled;
-      near = subst (λ (w : Streaming). IsNear w.built w.bytes new.kept) (sym all.same) all.near;
-      within = subst (λ (w : Streaming). new.kept ≤ length w.bytes) (sym all.same) all.within;
+      all = subst IsAllGiven (sym all.same) all.all;
       same = all.same ∙ ap (λ (w : Streaming). record w { kept = new.kept }) same
           ∙ ap (λ (n : ℕ). record old { given = n; kept = new.kept }) (sym (ap (λ (w : Streaming). w.given) all.same));
       clear = clear;
@@ -80,7 +78,7 @@ module _ {E D : Type 0} (passing : Passing E D)
     last-fails e t fails = fails-further same (record {
       given = v.given;
       place = new.kept;
-      settled = all.settled;
+      settled = all.all.settled;
       steps = λ count from first done. settled-fails passing calls v first s done new.kept e t all.onward fails;
     }) replaced
 

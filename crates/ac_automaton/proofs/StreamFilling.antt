@@ -1,6 +1,6 @@
 -- The search of a stream: how its buffer is filled, and what is seen then.
 use Rattle.ac_util.proofs.Prelude.{All, ◌≡◌, ◌≢◌, ℕ, ◌+◌, ◌-◌, ◌≤◌, List, ◌++◌, length, length-append, length-drop, take, drop, max, inl, inr, refl, ap, sym, subst, ◌∙◌, arith, append_assoc, slice_range, rules, append-nil, drop-append-le, drop-drop, length-take-le, take-add, common_steps}
-use Rattle.ac_automaton.specs.Prelude.{StandsAfter, Built, from, Node, stream_result, usize_max, Ended, Failed, HasGivenSettled, Inside, IsStreaming, Open, Phase, plain_of, StandsPast, stream_from, Streaming, pending, HasGivenFirst, ChainMatch}
+use Rattle.ac_automaton.specs.Prelude.{StandsAfter, Built, from, Node, stream_result, usize_max, Ended, Failed, HasGivenSettled, Inside, IsAllGiven, IsStreaming, Open, Phase, plain_of, StandsPast, stream_from, Streaming, pending, HasGivenFirst, ChainMatch}
 use Rattle.ac_util.proofs.Longer.{pick-extended}
 use Rattle.ac_util.proofs.Spans.{take_drop_take}
 
@@ -69,7 +69,7 @@ module _ (stands : ℕ → Node → Type 0) (chains : List (List ChainMatch)) (i
     streams-still = search (rules, past-then v.phase (length buffer), back-open)
 
     -- the stream was closed, and what stands after the bytes that are left was cleared
-    module _ (settled : HasGivenSettled v v) (clear : All (λ b. b ≡ 0) (drop i.filled buffer)) (phase : Phase) (closed : phase ≢ Open)
+    module _ (settled : IsAllGiven v) (clear : All (λ b. b ≡ 0) (drop i.filled buffer)) (phase : Phase) (closed : phase ≢ Open)
       where
         pub streams-closed : IsStreaming stands chains (record i { buffer = buffer }) (record v { phase = phase; buffer = length buffer })
         streams-closed = by phase closed
@@ -124,10 +124,10 @@ module _ (stands : ℕ → Node → Type 0) (chains : List (List ChainMatch)) (i
           (record v { bytes = bytes; buffer = length buffer })
       streams-filled = search (rules, filled)
 
--- where all matches that are settled were given, they are given once there is room
-pub settled-as : (old mid inside : Streaming) → inside ≡ mid → mid ≡ record old { front = mid.front }
-    → HasGivenSettled old old → HasGivenSettled inside inside
-settled-as old mid inside is same settled = grind (arith, common_steps)
+-- where all matches that are settled were given, they are given wherever the buffer begins
+pub given-as : (old inside : Streaming) (front : ℕ) → inside ≡ record old { front = front } → IsAllGiven old → IsAllGiven inside
+given-as old inside front is all =
+    subst IsAllGiven (sym is) (record { settled = all.settled; near = all.near; next = all.next; within = all.within })
 
 -- what is seen once it was closed after a read, by what was seen before that and once there was room
 pub closed-as : (old mid inside : Streaming) → inside ≡ mid → mid ≡ record old { front = mid.front }

@@ -1,6 +1,6 @@
 -- The search of a stream gives no match: as far as which place it is settled, and from where on bytes are kept.
-use Rattle.ac_util.proofs.Prelude.{◌≡◌, ◌⊎◌, ℕ, ◌+◌, ◌-◌, ◌≤◌, true, List, length, max, inl, inr, refl, ap, sym, subst, ◌∙◌, arith, Option, Some, None, rules, append-nil, common_steps}
-use Rattle.ac_automaton.specs.Prelude.{is_leftmost, IsNear, IsSettledAt, IsSettledBy, Node, Occurrence, pick, Standard, stream_result, Ended, Failed, HasGivenSettled, Inside, IsSettledIn, IsStreaming, kept_from, Open, Phase, StandsPast, stream_from, Streaming, ChainMatch, ChainRest}
+use Rattle.ac_util.proofs.Prelude.{◌≡◌, ◌⊎◌, ℕ, ◌+◌, ◌-◌, ◌≤◌, true, List, length, max, inl, inr, refl, ap, sym, subst, ◌∙◌, arith, Option, Some, None, IfSome, slice_get, slice_get_within, rules, append-nil, common_steps}
+use Rattle.ac_automaton.specs.Prelude.{CouldChange, CouldNextChange, IsAllGiven, is_leftmost, IsNear, IsSettledAt, IsSettledBy, Node, Occurrence, pick, Standard, stream_result, Ended, Failed, HasGivenSettled, Inside, IsSettledIn, IsStreaming, kept_from, Open, Phase, StandsPast, stream_from, Streaming, ChainMatch, ChainRest}
 use Rattle.ac_util.proofs.Decided.{settled-at}
 use Rattle.ac_util.proofs.Shortest.{longest-most, none-empty}
 use Rattle.ac_util.proofs.Walks.{next-none, walk_after-None}
@@ -29,6 +29,15 @@ module _ {stands : ℕ → Node → Type 0} {chains : List (List ChainMatch)} {i
   abbrev pub kept_open : ℕ
   kept_open = max v.kept (v.front + at - i.reserve)
 
+  -- and so there is no next one
+  pub none-next : pick v.built.kind (stream_from v.built v.bytes i.begun) ≡ None → CouldNextChange v.built v.bytes v.given
+  none-next none = by (slice_get (stream_result v.built v.bytes) v.given) refl
+    where
+      by : (r : Option Occurrence) → slice_get (stream_result v.built v.bytes) v.given ≡ r → IfSome r (CouldChange v.built v.bytes)
+      by None at = tt
+      by (Some m) at =
+          let within = slice_get_within (stream_result v.built v.bytes) v.given m at in let all = given-all none in absurd (omega arith)
+
   pub settles-standard : v.built.kind ≡ Standard → pick v.built.kind (stream_from v.built v.bytes i.begun) ≡ None
       → (v.phase ≡ Ended → ⊥) → IsSettledBy v.built.kind v.built v.bytes v.given kept_open
   settles-standard standard none open' = search (rules, back-open, end-is, given-all none, whole-given none)
@@ -53,7 +62,8 @@ module _ {stands : ℕ → Node → Type 0} {chains : List (List ChainMatch)} {i
   -- and all that is settled was given
   module _ (read : i.begun ≤ v.front + at)
       (settles : (v.phase ≡ Ended → ⊥) → IsSettledBy v.built.kind v.built v.bytes v.given kept_open)
-      (ends : v.phase ≡ Ended → pick v.built.kind (stream_from v.built v.bytes i.begun) ≡ None) where
+      (ends : v.phase ≡ Ended → pick v.built.kind (stream_from v.built v.bytes i.begun) ≡ None)
+      (next : CouldNextChange v.built v.bytes v.given) where
     -- by what its phase asks for
     record IsKept (p : Phase) (kept : ℕ) : Type 0 where
       settled : IsSettledIn p v.built v.bytes v.given kept
@@ -98,14 +108,11 @@ module _ {stands : ℕ → Node → Type 0} {chains : List (List ChainMatch)} {i
       kept-so : IsKept v.phase kept
       kept-so = subst (IsKept v.phase) (sym is) is-kept
 
+      all-given : IsAllGiven (record v { kept = kept })
+      all-given = record { settled = kept-so.settled; near = kept-so.near; next = next; within = kept-so.within }
+
       pub gives-settled : HasGivenSettled v (record v { kept = kept })
-      gives-settled = record {
-        settled = kept-so.settled;
-        near = kept-so.near;
-        same = refl;
-        onward = kept-so.onward;
-        within = kept-so.within;
-      }
+      gives-settled = record { all = all-given; same = refl; onward = kept-so.onward }
 
       pub streams-on : (state : ℕ) (rest : Option ChainRest)
           → StandsPast stands chains (record i { state = state; at = at; rest = rest }) (record v { kept = kept })
@@ -128,13 +135,7 @@ module _ {stands : ℕ → Node → Type 0} {chains : List (List ChainMatch)} {i
         past = past;
         given = inv.given;
         all = inv.all;
-        failed = λ failed. record {
-          settled = kept-so.settled;
-          near = kept-so.near;
-          same = refl;
-          onward = omega arith;
-          within = kept-so.within;
-        };
+        failed = λ failed. all-given;
         few = inv.few;
         in_buffer = (let f = inv.in_buffer in let o = kept-so.onward in omega arith);
         after = (let f = inv.after in let o = kept-so.onward in omega arith);

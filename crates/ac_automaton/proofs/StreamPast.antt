@@ -1,15 +1,18 @@
 -- The search of a stream under a leftmost kind: what it gives of the state to which it has come, and where nothing is given.
 use Rattle.ac_util.proofs.Prelude.{◌≡◌, ◌≢◌, ◌⊎◌, ℕ, ◌+◌, ◌-◌, ◌<◌, ◌≤◌, true, false, List, [], ◌++◌, length, length-append, max, slice_index, inl, inr, refl, ap, sym, subst, ◌∙◌, arith, Option, Some, None, IfSome, option_map, false≢true, append-nil}
-use Rattle.ac_automaton.specs.Prelude.{reached, step, text, IsPickIn, StandsAfter, is_leftmost, longest_len, No, Occurrence, pick, AutomatonView, Cursor, Ended, Inside, IsStreaming, Phase, place_of, plain_of, step_of, stream_from, Streaming, reads_on, IsGiven, pending, IsRestBefore, streaming_by, ChainMatch, ChainRest, Given}
+use Rattle.ac_automaton.specs.Prelude.{CouldNextChange, reached, step, text, IsPickIn, StandsAfter, is_leftmost, longest_len, No, Occurrence, pick, AutomatonView, Cursor, Ended, Inside, IsStreaming, Phase, place_of, plain_of, step_of, stream_from, Streaming, reads_on, IsGiven, pending, IsRestBefore, streaming_by, ChainMatch, ChainRest, Given}
 use Rattle.ac_util.proofs.Living.{node-short, pick-beyond}
 use Rattle.ac_util.proofs.Onward.{byte_at}
+use Rattle.ac_util.proofs.Shortest.{none-empty}
+use Rattle.ac_util.proofs.StillOpen.{could-change}
 use Rattle.ac_util.proofs.Walks.{pick-Occurs}
 use Rattle.ac_automaton.proofs.LedWalks.{byte-is}
 use Rattle.ac_automaton.proofs.PastGives.{ends-there, goes-on, in-node, never-dead, numbered, pattern-within, picks-first, rest-within}
 use Rattle.ac_automaton.proofs.StreamKeeping.{settles-leftmost}
 use Rattle.ac_automaton.proofs.StreamKnown.{never-standard}
 use Rattle.ac_automaton.proofs.StreamReads.{at, begun-before, comes, hand-there, HoldsBack, IsReadOn, none-more, of-search, onward, q, read-enough, search-is, Settles, stands-there, u, within-buffer, within-bytes}
-use Rattle.ac_automaton.proofs.StreamRefusals.{past-on}
+use Rattle.ac_automaton.proofs.StreamOpen.{next-could}
+use Rattle.ac_automaton.proofs.StreamRefusals.{allowed-some, past-on}
 use Rattle.ac_automaton.proofs.StreamReserves.{most-leftmost}
 
 module _ (a : AutomatonView) {bytes : List ℕ} {given front kept : ℕ} {phase : Phase} {buffer : ℕ} {chains : List (List ChainMatch)}
@@ -170,6 +173,22 @@ module _ (a : AutomatonView) {bytes : List ℕ} {given front kept : ℕ} {phase 
           | inr over ↦ absurd (let none = over.none in cc)
         ]
 
+    stands-whole : reached a.built.kind (plain_of a.built) No (text (stream_from a.built bytes i.begun)) ≡ Some (u a inv on)
+    stands-whole =
+        subst (λ (bs : List ℕ). reached a.built.kind (plain_of a.built) No (text (stream_from a.built bs i.begun)) ≡ Some (u a inv on))
+        (append-nil bytes)
+        (ap (λ (k : ℕ). reached a.built.kind (plain_of a.built) No (text (record (q a inv []) { high = k }))) (sym end-at)
+        ∙ (stands-there a inv on [] (none-more a inv)).stands)
+
+    -- a match that is found could change
+    next : CouldNextChange a.built bytes given
+    next =
+        let some = allowed-some a.built inv.allowed in
+        next-could a.built some bytes inv.given
+        (λ m is. could-change a.built bytes i.begun (let w = inv.after in let k = inv.kept_within in omega arith) first (u a inv on) stands-whole m is
+        (let o = pick-Occurs a.built.kind (stream_from a.built bytes i.begun) m is in
+        let long = none-empty a.built.patterns m.pattern some o.numbered in let as_long = o.as_long in let to_high = o.to_high in omega arith))
+
     pub holds-past : HoldsBack a chains i v inv there
     holds-past = record {
       ahead = onward a inv on;
@@ -177,6 +196,7 @@ module _ (a : AutomatonView) {bytes : List ℕ} {given front kept : ℕ} {phase 
       begun = begun-before a inv on;
       settles = settles-leftmost inv there.at (onward a inv on) all first beyond-picked;
       ends = ends;
+      next = next;
       stands = λ kept' rest none. record {
         node = u a inv on;
         there = (comes a inv on).there;

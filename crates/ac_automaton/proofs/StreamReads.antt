@@ -1,6 +1,6 @@
 -- The search of a stream reads on in its buffer: where it stands then, whichever bytes follow; and what it gives or keeps there.
 use Rattle.ac_util.proofs.Prelude.{◌≡◌, ◌≢◌, ◌⊎◌, ℕ, ◌+◌, ◌-◌, ◌<◌, ◌≤◌, true, List, [], ◌++◌, length, length-append, take, max, get_or, slice_index, IfSome, inl, inr, refl, ap, sym, subst, ◌∙◌, arith, Option, Some, None, option_map, get_or-drop, get_or_append_left}
-use Rattle.ac_automaton.specs.Prelude.{IsSearchFor, StandsAfter, is_leftmost, IsSettledBy, LeftmostFirst, LeftmostLongest, MatchKind, No, Occurrence, pattern_of, pick, Search, Standard, AutomatonView, Cursor, Ended, Failed, GivesMatch, HasGivenSettled, Inside, IsStreaming, kept_from, Phase, place_of, plain_of, StandsPast, stream_from, Streaming, pending, Comes, Point, StopsAt, scan_of, ReadsThrough, streaming_by, ChainMatch, ChainRest, Given}
+use Rattle.ac_automaton.specs.Prelude.{CouldNextChange, IsSearchFor, StandsAfter, is_leftmost, IsSettledBy, LeftmostFirst, LeftmostLongest, MatchKind, No, Occurrence, pattern_of, pick, Search, Standard, AutomatonView, Cursor, Ended, Failed, GivesMatch, HasGivenSettled, Inside, IsStreaming, kept_from, Phase, place_of, plain_of, StandsPast, stream_from, Streaming, pending, Comes, Point, StopsAt, scan_of, ReadsThrough, streaming_by, ChainMatch, ChainRest, Given}
 use Rattle.ac_automaton.proofs.LedWalks.{IsSearchOf, led-after}
 use Rattle.ac_automaton.proofs.StreamGiving.{gives, streams-then}
 use Rattle.ac_automaton.proofs.StreamKeeping.{gives-settled, kept_open, streams-on}
@@ -149,6 +149,7 @@ pub record HoldsBack (a : AutomatonView) (chains : List (List ChainMatch)) (i : 
   pub begun : i.begun ≤ v.front + there.at
   pub settles : (v.phase ≡ Ended → ⊥) → IsSettledBy v.built.kind v.built v.bytes v.given (kept_open inv there.at ahead all)
   pub ends : v.phase ≡ Ended → pick v.built.kind (stream_from v.built v.bytes i.begun) ≡ None
+  pub next : CouldNextChange v.built v.bytes v.given
   pub stands : (kept : ℕ) (rest : Option ChainRest) → rest ≡ None
       → StandsPast (a.stands No) chains (record i { state = there.state; at = there.at; rest = rest }) (record v { kept = kept })
 
@@ -157,10 +158,10 @@ module _ {a : AutomatonView} {chains : List (List ChainMatch)} {i : Inside} {v :
     (inv : IsStreaming (a.stands No) chains i v) (holds : HoldsBack a chains i v inv there) (kept : ℕ)
     (is : kept ≡ kept_from v.phase (max v.kept (v.front + there.at - i.reserve)) (v.front + there.at)) where
   pub gives-nothing : HasGivenSettled v (record v { kept = kept })
-  gives-nothing = gives-settled inv there.at holds.ahead holds.all holds.begun holds.settles holds.ends kept is
+  gives-nothing = gives-settled inv there.at holds.ahead holds.all holds.begun holds.settles holds.ends holds.next kept is
 
   pub streams-nothing : (rest : Option ChainRest) → rest ≡ None
       → IsStreaming (a.stands No) chains (record i { state = there.state; at = there.at; rest = rest }) (record v { kept = kept })
   streams-nothing rest none =
-      streams-on inv there.at holds.ahead holds.all holds.begun holds.settles holds.ends kept is there.state rest
+      streams-on inv there.at holds.ahead holds.all holds.begun holds.settles holds.ends holds.next kept is there.state rest
       (holds.stands kept rest none)

@@ -1,6 +1,6 @@
 -- The replacement of a stream from its beginning on: what was read so far, its end, and where it fails.
 use Rattle.ac_util.proofs.Prelude.{◌≡◌, ℕ, ◌≤◌, Bool, List, [], ◌++◌, length, take, drop, inl, inr, refl, ap, sym, subst, ◌∙◌, arith, Option, Some, None, Result, rules, append-nil, take-append-le, take_all, common_steps}
-use Rattle.ac_automaton.specs.Prelude.{buffer_len, Built, IsNear, IsSettledBy, Occurrence, Reading, ReadsAll, ReadsSome, Replacing, stream_result, StreamError, usize_max, Ended, FailsBy, FailsToExchange, FailsToFill, FillsMore, HasExchanged, HasExchangedFirst, HasReplaced, initial_stream, IsSettledIn, matches_so_far, MeetsEnd, Open, Passing, ReplacesBy, Steps, Streaming}
+use Rattle.ac_automaton.specs.Prelude.{buffer_len, Built, CouldNextChange, IsAllGiven, IsAllSettled, IsNear, IsSettledBy, Occurrence, Reading, ReadsAll, ReadsSome, Replacing, stream_result, StreamError, usize_max, Ended, FailsBy, FailsToExchange, FailsToFill, FillsMore, HasExchanged, HasExchangedFirst, HasReplaced, initial_stream, IsSettledIn, matches_so_far, MeetsEnd, Open, Passing, ReplacesBy, Steps, Streaming}
 use Rattle.ac_util.proofs.Devices.{fails-on, reads-on, reads-out}
 use Rattle.ac_automaton.proofs.StreamExchanged.{replaced-all, replaced-filled, replaced-none}
 
@@ -14,7 +14,6 @@ module _ {E D : Type 0} (passing : Passing E D)
     pub goes_on : v.phase ≡ Open
     pub reads : ReadsSome begun reader v.bytes
     pub small : length v.bytes ≤ usize_max
-    pub room : v.buffer ≡ buffer_len built.patterns
     pub clear : passing.held s.closure ≡ []
     pub replaced : HasReplaced passing calls 0 0 v first s
 
@@ -37,6 +36,13 @@ module _ {E D : Type 0} (passing : Passing E D)
       → IsSettledIn v.phase v.built v.bytes given place → IsSettledBy built.kind built v.bytes given place
   settled-open v given place is open' h = grind (arith, common_steps)
 
+  all-open : (v : Streaming) → v.built ≡ built → v.phase ≡ Open → IsAllGiven v → IsAllSettled built v.bytes v.given v.kept
+  all-open v is open' all = record {
+    settled = settled-open v v.given v.kept is open' all.settled;
+    near = subst (λ (b : Built). IsNear b v.bytes v.kept) is all.near;
+    next = subst (λ (b : Built). CouldNextChange b v.bytes v.given) is all.next;
+  }
+
   settled-ended : (v : Streaming) (given place : ℕ) → v.built ≡ built → v.phase ≡ Ended
       → IsSettledIn v.phase v.built v.bytes given place
       → (given ≡ length (stream_result built v.bytes)) × (place ≡ length v.bytes)
@@ -47,12 +53,11 @@ module _ {E D : Type 0} (passing : Passing E D)
 
   -- what was exchanged before the last read, by which some bytes more came
   exchanged-first : {reader : Reading} {v : Streaming} {s : Replacing E D} → IsReplacing reader v s
-      → IsSettledIn v.phase v.built v.bytes v.given v.kept → IsNear v.built v.bytes v.kept
-      → (new : Streaming) {e : StreamError} {t : Replacing E D} (last : List ℕ) → new.bytes ≡ v.bytes ++ last
+      → IsAllGiven v → (new : Streaming) {e : StreamError} {t : Replacing E D} (last : List ℕ) → new.bytes ≡ v.bytes ++ last
       → length last ≤ buffer_len built.patterns → new.built ≡ built → HasReplaced passing calls v.given v.kept new s s
       → (fails : FailsToExchange passing calls new s e t)
       → HasExchangedFirst passing calls built new.bytes fails.given fails.place first e t
-  exchanged-first {reader} {v} {s} on settled near new {e} {t} last whole short is none fails = record {
+  exchanged-first {reader} {v} {s} on all new {e} {t} last whole short is none fails = record {
     before = v.bytes;
     count = v.given;
     from = v.kept;
@@ -60,8 +65,7 @@ module _ {E D : Type 0} (passing : Passing E D)
       last = last;
       whole = whole;
       short = short;
-      settled = settled-open v v.given v.kept on.built_is on.goes_on settled;
-      near = subst (λ (b : Built). IsNear b v.bytes v.kept) on.built_is near;
+      all = all-open v on.built_is on.goes_on all;
     };
     between = s;
     clear = on.clear;
@@ -87,7 +91,6 @@ module _ {E D : Type 0} (passing : Passing E D)
       reads = subst (λ (bytes : List ℕ). ReadsSome begun new_reader bytes) (sym (ap (λ (w : Streaming). w.bytes) more.same))
           (reads-on on.reads more.reads);
       small = more.small;
-      room = ap (λ (w : Streaming). w.buffer) more.same ∙ on.room;
       clear = on.clear;
       replaced = still-more more on.replaced;
     }
@@ -111,14 +114,14 @@ module _ {E D : Type 0} (passing : Passing E D)
     }
 
     -- or a read has failed
-    pub fails-reading : IsSettledIn v.phase v.built v.bytes v.given v.kept → IsNear v.built v.bytes v.kept → (e : StreamError)
+    pub fails-reading : IsAllGiven v → (e : StreamError)
         → FailsToFill v new reader new_reader e → FailsBy passing calls ends built begun new_reader first e s
-    fails-reading settled near e fails =
-        let all = replaced-all passing calls v first s v.kept on.replaced refl in
-        search (rules, fails-on, on, all, settled-open, steps-by)
+    fails-reading given e fails =
+        let all = replaced-all passing calls v first s v.kept on.replaced refl in let settled = all-open v on.built_is on.goes_on given in
+        search (rules, fails-on, on, all, settled, steps-by)
 
     -- or an exchange has failed
-    module _ (settled : IsSettledIn v.phase v.built v.bytes v.given v.kept) (near : IsNear v.built v.bytes v.kept) where
+    module _ (all : IsAllGiven v) where
       -- of what was read more
       pub fails-exchanging : FillsMore v new reader new_reader → (e : StreamError) (t : Replacing E D)
           → FailsToExchange passing calls new s e t → FailsBy passing calls ends built begun new_reader first e t
@@ -130,8 +133,8 @@ module _ {E D : Type 0} (passing : Passing E D)
               place = fails.place;
               settled = inl (here.reads, settled-open new fails.given fails.place here.built_is here.goes_on fails.settled);
               steps = steps-by new fails.given fails.place (Some e) t here.built_is (fails.steps 0 0 first here.replaced);
-              first = exchanged-first on settled near new more.more (ap (λ (w : Streaming). w.bytes) more.same)
-                  (let r = more.room in let b = on.room in omega arith) here.built_is
+              first = exchanged-first on all new more.more (ap (λ (w : Streaming). w.bytes) more.same)
+                  (subst (λ (b : Built). length more.more ≤ buffer_len b.patterns) on.built_is more.room) here.built_is
                   (still-more more (replaced-none passing calls v s)) fails;
             }),
             here.small,
@@ -149,7 +152,7 @@ module _ {E D : Type 0} (passing : Passing E D)
               settled = (let all = settled-ended new fails.given fails.place here.built_is here.ended fails.settled in
                   inr (here.reads, all.0, all.1));
               steps = steps-by new fails.given fails.place (Some e) t here.built_is (fails.steps 0 0 first here.replaced);
-              first = exchanged-first on settled near new [] (ap (λ (w : Streaming). w.bytes) met.same ∙ sym (append-nil v.bytes))
+              first = exchanged-first on all new [] (ap (λ (w : Streaming). w.bytes) met.same ∙ sym (append-nil v.bytes))
                   (omega arith) here.built_is (still-ended met (replaced-none passing calls v s)) fails;
             }),
             here.small,
@@ -164,7 +167,6 @@ module _ {E D : Type 0} (passing : Passing E D)
       goes_on = ap (λ (w : Streaming). w.phase) done.same ∙ on.goes_on;
       reads = subst (λ (w : Streaming). ReadsSome begun reader w.bytes) (sym done.same) on.reads;
       small = subst (λ (w : Streaming). length w.bytes ≤ usize_max) (sym done.same) on.small;
-      room = ap (λ (w : Streaming). w.buffer) done.same ∙ on.room;
       clear = done.clear;
       replaced = done.replaced 0 0 first on.replaced;
     }

@@ -87,7 +87,7 @@ module _ {F D : Type 0} (told : D → Writing)
     pub fails-with : (e : StreamError) → FailsBy through wrapped ends built reader new_reader first e t
         → FailsToReplaceWith told closures built closure old ends reader new_reader t.destination e
     fails-with e (bytes, inl fails, small) =
-        (bytes, inl (fails.reads, (fails.given, fails.place, fails.settled, fails.near, (t.closure.closure, bare-made))), small)
+        (bytes, inl (fails.reads, (fails.given, fails.place, fails.all, (t.closure.closure, bare-made))), small)
       where
         bare-made : ReplacementSteps (WritesPiece told) (Calls closures) answer_of_result (take fails.place bytes) 0
             (take fails.given (stream_result built bytes)) (bare first) None (bare t)

@@ -3,7 +3,7 @@ use Rattle.ac_util.proofs.Prelude.{◌≡◌, ◌⊎◌, ℕ, ◌+◌, ◌<◌, 
 use Rattle.ac_automaton.specs.Prelude.{step, StandsAfter, No, Node, Occurrence, pick, Search, Standard, AutomatonView, Cursor, Inside, IsStreaming, matches_of, node_at, Phase, plain_of, step_of, stream_from, Streaming, first_given, pending, IsRestBefore, streaming_by, StopsAt, scan_of, ChainMatch, ChainRest}
 use Rattle.ac_util.proofs.Living.{dead-picked}
 use Rattle.ac_automaton.proofs.LedWalks.{byte-is}
-use Rattle.ac_automaton.proofs.StreamKeeping.{settles-standard}
+use Rattle.ac_automaton.proofs.StreamKeeping.{none-next, settles-standard}
 use Rattle.ac_automaton.proofs.StreamReads.{at, begun-before, comes, hand-there, HoldsBack, IsReadOn, none-more, of-search, onward, q, read-enough, stands-there, u, within-buffer}
 use Rattle.ac_automaton.proofs.StreamFirst.{lists-there, node-next, picked-next, picked-there}
 
@@ -79,6 +79,7 @@ module _ (a : AutomatonView) {bytes : List ℕ} {given front kept : ℕ} {phase 
         begun = begun-before a inv on;
         settles = settles-standard inv there.at (onward a inv on) all standard picks-none;
         ends = λ ended. picks-none;
+        next = none-next inv there.at (onward a inv on) all picks-none;
         stands = λ kept' rest none. record {
           node = u a inv on;
           there = (comes a inv on).there;

@@ -1,12 +1,12 @@
 -- What the replacement of a stream gathers before it writes, and what it has done so far.
 use Rattle.std.specs.Prelude.{◌≡◌, ℕ, List, [], ◌++◌, MatchResult, Option, None, Result, Some, ◌⊎◌, ◌<◌, ◌≤◌, Bool, Ok, Err, length, take, drop}
-use Rattle.ac_automaton.specs.Util.{error_of, Replacing, StreamError, WriteError, WritesAll, WritesUntilFailure, Writing, Answer, Built, Calls, Fails, FailsToRead, Continues, IsNear, IsSettled, IsSettledBefore, IsSettledBy, Occurrence, Reading, ReadsAll, ReplacementSteps, StartFrom, stream_result, usize_max}
+use Rattle.ac_automaton.specs.Util.{error_of, Replacing, StreamError, WriteError, WritesAll, WritesUntilFailure, Writing, Answer, Built, Calls, Fails, FailsToRead, Continues, IsAllSettled, IsSettled, IsSettledBefore, Occurrence, Reading, ReadsAll, ReplacementSteps, StartFrom, stream_result, usize_max}
 use Rattle.ac_automaton.specs.declared.automaton.stream_replace.ByTexts.{ByTexts}
 use Rattle.std.specs.Borrow.{Bor, MutBor}
 use Rattle.std.specs.Fn.{Mut}
 use Rattle.std.specs.declared.io.Error.{Error}
 use Rattle.ac_util.specs.declared.error.StreamError.TheVariants.{Io}
-use Rattle.ac_automaton.specs.Streams.{IsSettledIn, Streaming, matches_so_far}
+use Rattle.ac_automaton.specs.Streams.{IsAllGiven, IsSettledIn, Streaming, matches_so_far}
 
 -- a part of what was held back and of some bytes after it was written, and the rest of it is held back
 pub record Gathers (old new : Writing) (held bytes still : List ℕ) : Type 0 where
@@ -103,9 +103,7 @@ module _ {E D : Type 0} (passing : Passing E D)
   -- all matches of what was read that are settled were exchanged, and all that is settled was written, so that nothing is held
   -- back: whatever was done before
   pub record HasExchanged (old new : Streaming) (s t : Replacing E D) : Type 0 where
-    pub settled : IsSettledIn new.phase new.built new.bytes new.given new.kept
-    pub near : IsNear new.built new.bytes new.kept
-    pub within : new.kept ≤ length new.bytes
+    pub all : IsAllGiven new
     pub same : new ≡ record old { given = new.given; kept = new.kept }
     pub clear : passing.held t.closure ≡ []
     pub replaced : (count from : ℕ) (first : Replacing E D) → HasReplaced count from old first s → HasReplaced count from new first t
@@ -135,8 +133,7 @@ module _ {E D : Type 0} (passing : Passing E D)
     pub given : ℕ
     pub place : ℕ
     pub reads : FailsToRead 0 reader new_reader bytes e
-    pub settled : IsSettledBy built.kind built bytes given place
-    pub near : IsNear built bytes place
+    pub all : IsAllSettled built bytes given place
     pub clear : passing.held t.closure ≡ []
     pub steps : Steps (take place bytes) 0 (take given (stream_result built bytes)) s None t
 

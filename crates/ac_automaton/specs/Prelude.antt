@@ -1,4 +1,4 @@
--- The names of this crate that most proofs cite, passed on from one place. Declares nothing.
+-- The names of definitions that most proofs here cite, passed on from one place. Declares nothing.
 pub use Rattle.ac_util.specs.Built.{Built, Stream, empty_refusal, find_refusal, has_empty, overlapping_iter_refusal, overlapping_refusal, refusal, replace_refusal, search_in, start_refusal, stream_refusal}
 pub use Rattle.ac_util.specs.Commits.{Anything, Commits, IsPickIn, IsSearchFor, NodeCommits, Prefixes, StandsAfter, end_after, standing_at}
 pub use Rattle.ac_util.specs.Device.{Reading, ReadsAll, ReadsSome, WritesAll, WritesUntilFailure, Writing}
@@ -13,7 +13,7 @@ unfoldable pub use Rattle.ac_util.specs.Pick.{pick}
 pub use Rattle.ac_util.specs.Prefilters.{BeginWith, IsNeedleMatch, begins_with, is_one_of, may_skip, search_over}
 pub use Rattle.ac_util.specs.Prefilters.Skip.{Needle}
 pub use Rattle.ac_util.specs.Replacement.{AnswersWhole, AppendsAll, AreInOrder, Calls, MakesSteps, MatchAnswer, ReplacementSteps, Replacing, StartFrom, StepsLead, Turn, answer_of, is_whole, replaced, replaced_from, whole_characters}
-pub use Rattle.ac_util.specs.Stream.{AnswersStream, FailsToReplace, FailsToReplaceWith, HasWrittenFirst, IsNear, IsSettledAt, IsSettledBy, ReplacesStream, ReplacesStreamWith, WritesPiece, answer_of_result, buffer_len, error_of, last_end, reserve, settled, stream_result}
+pub use Rattle.ac_util.specs.Stream.{AnswersStream, CouldChange, CouldNextChange, FailsToReplace, FailsToReplaceWith, HasWrittenFirst, IsAllSettled, IsNear, IsSettledAt, IsSettledBefore, IsSettledBy, ReplacesStream, ReplacesStreamWith, WritesPiece, answer_of_result, buffer_len, error_of, last_end, reserve, settled, stream_result}
 pub use Rattle.ac_util.specs.Walk.{IsAfter, next_match, repeats}
 unfoldable pub use Rattle.ac_util.specs.Walk.{walk_after}
 pub use Rattle.ac_util.specs.declared.device.WriteError.{WriteError}
@@ -49,7 +49,7 @@ unfoldable pub use Rattle.ac_automaton.specs.Reads.{led}
 pub use Rattle.ac_automaton.specs.Scans.{Grows, HasRead, IsAlive, IsAt, MayAdvance, NoMatchBetween, PassesNoMatch, Reaches, Scan, ScanText, ScannerView, ScansTo, Skips, SkipsTo, StopsAtDead, Work, WorkedTape, in_memory, most_looks, node, node_at, nothing_done, scan_of, scanner, search_of, search_through, tape_with, work_of}
 pub use Rattle.ac_automaton.specs.Sorted.{AreListed, AreSorted, IsHead, IsOrder, Keyed, Precedes, Sorted, byte_at, compared, compared_by_bytes, head_len, is_prefix, key_at, keyed, keyed_one, numbers}
 unfoldable pub use Rattle.ac_automaton.specs.Sorted.{head_of}
-pub use Rattle.ac_automaton.specs.Streams.{EndsNow, FailsToFill, FillsMore, GivesMatch, GivesNextMatch, GivesNone, GivesRead, GoesOnBy, HasGivenFirst, HasGivenLast, HasGivenSettled, HasSearchedAll, Inside, IsSearching, IsSettledIn, IsSettling, IsStreaming, KeepsGiven, MeetsEnd, ReadsThrough, SettlesBy, StandsPast, Streaming, Streams, initial_stream, kept_from, kept_len, matches_so_far, most_kept, stream_from, streaming_by}
+pub use Rattle.ac_automaton.specs.Streams.{EndsNow, FailsToFill, FillsMore, GivesMatch, GivesNextMatch, GivesNone, GivesRead, GoesOnBy, HasGivenFirst, HasGivenLast, HasGivenSettled, HasSearchedAll, Inside, IsAllGiven, IsSearching, IsSettledIn, IsSettling, IsStreaming, KeepsGiven, MeetsEnd, ReadsThrough, SettlesBy, StandsPast, Streaming, Streams, initial_stream, kept_from, kept_len, matches_so_far, most_kept, stream_from, streaming_by}
 pub use Rattle.ac_automaton.specs.Tries.{AreAllStates, AreNodes, AreStates, ForNode, HasOwn, HasState, IsFailureOf, IsNumberOf, IsNumbered, IsOwn, IsRoot, IsRootEntry, IsTrie, IsTrieState, Links, NumbersNodes, Represents, TakesMatch, Trie, TrieView, all_matches, automaton_of, dead_state, fallback, leads_on, listed_within, meaning_of, stands-lists, state_at, state_patterns, transition_bytes, transition_target, transitions_of, trie_of}
 unfoldable pub use Rattle.ac_automaton.specs.Tries.{transition_bytes_of}
 pub use Rattle.ac_automaton.specs.declared.automaton.commits.ChainMatch.{ChainMatch}

@@ -1,7 +1,7 @@
 -- What is seen of a search over a stream, and what its calls do.
 use Rattle.std.specs.Prelude.{All, ◌≡◌, ◌≢◌, ◌⊎◌, ℕ, ◌+◌, ◌-◌, ◌<◌, ◌≤◌, Bool, true, not, List, [], ◌++◌, Option, None, Some, IfSome, Result, MatchBool, MatchOption, MatchResult, if◌then◌else◌, length, max, slice_get, take, drop}
 use Rattle.ac_util.specs.Commits.{StandsAfter}
-use Rattle.ac_automaton.specs.Util.{buffer_len, Built, FailsToRead, is_leftmost, IsNear, IsSettledBy, last_end, longest_len, No, Node, Occurrence, pick, Reading, ReadsAll, ReadsSome, reserve, Search, Standard, stream_refusal, stream_result, StreamError, walk_after, usize_max}
+use Rattle.ac_automaton.specs.Util.{buffer_len, Built, CouldNextChange, FailsToRead, is_leftmost, IsAllSettled, IsNear, IsSettledBefore, IsSettledBy, last_end, longest_len, No, Node, Occurrence, pick, Reading, ReadsAll, ReadsSome, reserve, Search, Standard, stream_refusal, stream_result, StreamError, walk_after, usize_max}
 use Rattle.ac_automaton.specs.declared.automaton.stream_settled.Phase.{Phase}
 use Rattle.ac_automaton.specs.declared.automaton.stream_settled.Phase.TheVariants.{Open, Ended, Failed}
 use Rattle.ac_automaton.specs.declared.automaton.commits.ChainMatch.{ChainMatch}
@@ -81,12 +81,17 @@ pub record GivesMatch (old : Streaming) (m : Occurrence) (new : Streaming) : Typ
   pub counted : new.given ≤ usize_max
 
 -- all matches of the bytes read so far that are settled were given, and what is settled is kept no more
+pub record IsAllGiven (v : Streaming) : Type 0 where
+  pub settled : IsSettledIn v.phase v.built v.bytes v.given v.kept
+  pub near : IsNear v.built v.bytes v.kept
+  pub next : CouldNextChange v.built v.bytes v.given
+  pub within : v.kept ≤ length v.bytes
+
+-- so it is once bytes are kept from an offset on
 pub record HasGivenSettled (old new : Streaming) : Type 0 where
-  pub settled : IsSettledIn old.phase old.built old.bytes old.given new.kept
-  pub near : IsNear old.built old.bytes new.kept
+  pub all : IsAllGiven (record old { kept = new.kept })
   pub same : new ≡ record old { kept = new.kept }
   pub onward : old.kept ≤ new.kept
-  pub within : new.kept ≤ length old.bytes
 
 -- the next match without a read, or None where none is settled
 abbrev pub GivesRead : Streaming → Option Occurrence → Streaming → Type 0
@@ -96,11 +101,11 @@ GivesRead old result new = MatchOption result (HasGivenSettled old new) (λ m. G
 abbrev pub KeepsGiven : Streaming → List ℕ → Type 0
 KeepsGiven v bytes = take v.given (stream_result v.built bytes) ≡ take v.given (matches_so_far v)
 
--- some bytes more were read, no more than the buffer has: the matches that were given stay as they are
+-- some bytes more were read, no more than a buffer has: the matches that were given stay as they are
 pub record FillsMore (old new : Streaming) (reader new_reader : Reading) : Type 0 where
   pub more : List ℕ
   pub some : 0 < length more
-  pub room : length more ≤ old.buffer
+  pub room : length more ≤ buffer_len old.built.patterns
   pub reads : ReadsSome reader new_reader more
   pub same : new ≡ record old { bytes = old.bytes ++ more; front = new.front }
   pub small : length new.bytes ≤ usize_max
@@ -133,13 +138,15 @@ GoesOnBy ends Ended Ended reader new_reader more = (more ≡ []) × (new_reader 
 GoesOnBy ends phase new_phase reader new_reader more = ⊥
 
 -- the next match of all that was read was given, once more was read where that was needed, and is settled; those given
--- before stay, and bytes are kept from its end on. Under Standard it was given before the end was met. usize counts what was
--- read
+-- before stay, and bytes are kept from its end on. Under Standard it was given before the end was met. Where a read was made, all
+-- that was settled by what had come before the last one was given. usize counts what was read
 pub record GivesNextMatch (ends : Bool) (old : Streaming) (m : Occurrence) (new : Streaming) (reader new_reader : Reading)
     : Type 0 where
   pub more : List ℕ
   pub reads : GoesOnBy ends old.phase new.phase reader new_reader more
   pub early : old.built.kind ≡ Standard → new.phase ≡ Open
+  pub needed : (new_reader ≡ reader)
+      ⊎ ((before : List ℕ) × (place : ℕ) × IsSettledBefore old.built (old.bytes ++ more) before old.given place)
   pub given : KeepsGiven old (old.bytes ++ more)
   pub next : slice_get (stream_result old.built (old.bytes ++ more)) old.given ≡ Some m
   pub settled : IsSettling (record new { given = old.given }) m
@@ -154,15 +161,14 @@ pub record GivesNextMatch (ends : Bool) (old : Streaming) (m : Occurrence) (new 
   }
 
 -- all matches of what was read that are settled were given, and then a read has failed, or brought more than usize counts,
--- which counts all before it; no more bytes are kept than the longest pattern has, and no others are left in the buffer
+-- which counts all before it; no others than those are left in the buffer that aren't settled
 pub record GivesError (old : Streaming) (e : StreamError) (new : Streaming) (reader new_reader : Reading)
     : Type 0 where
   pub open' : old.phase ≡ Open
   pub more : List ℕ
   pub reads : FailsToRead (length old.bytes) reader new_reader more e
   pub given : KeepsGiven old (old.bytes ++ more)
-  pub settled : IsSettledBy old.built.kind old.built (old.bytes ++ more) old.given new.kept
-  pub few : kept_len new ≤ longest_len old.built.patterns
+  pub all : IsAllSettled old.built (old.bytes ++ more) old.given new.kept
   pub small : length (old.bytes ++ more) ≤ usize_max
   pub same : new ≡ record old { bytes = old.bytes ++ more; front = new.kept; kept = new.kept; phase = Failed }
 
@@ -279,7 +285,7 @@ pub record IsStreaming (stands : ℕ → Node → Type 0) (chains : List (List C
   pub past : StandsPast stands chains i v
   pub given : HasGivenFirst v.phase v.built v.bytes v.given i.begun
   pub all : v.phase ≡ Ended → v.built.kind ≡ Standard → v.given ≡ length (matches_so_far v)
-  pub failed : v.phase ≡ Failed → HasGivenSettled v v
+  pub failed : v.phase ≡ Failed → IsAllGiven v
   pub few : v.given ≤ i.begun
   pub in_buffer : v.front ≤ v.kept
   pub after : i.begun ≤ v.kept

@@ -14,7 +14,7 @@ unfoldable pub use Rattle.ac_util.specs.Pick.{pick}
 pub use Rattle.ac_util.specs.Prefilters.{begins_with, BeginWith, first_bytes_of, is_one_of, IsFirstAmong, IsNeedleMatch, IsSkipFor, match_candidate, may_skip, Promises, search_over, Skip, skip_among, skip_for, skip_of, IsCandidateFor}
 pub use Rattle.ac_util.specs.Prefilters.Skip.{FirstOf}
 pub use Rattle.ac_util.specs.Replacement.{AreInOrder, StartFrom, is_whole, replaced, replaced_from, whole_characters, Answer, AppendsAll, answer_of, Calls, Fails, Continues, MatchAnswer, ReplacementSteps, Replacing, Turn, AnswersWhole, MakesSteps, MatchReplaceError, StepsLead}
-pub use Rattle.ac_util.specs.Stream.{AreDecided, IsSettledAt, NoneOpen, buffer_len, error_of, kept_back_len, last_end, reserve, stream_result, without_last, AnswersStream, answer_of_result, FailsToRead, FailsToReplace, FailsToReplaceWith, HasWrittenFirst, IsNear, IsSettled, IsSettledBefore, IsSettledBy, IsStreamRefused, ReplacesStream, ReplacesStreamWith, settled, StepsAreSettled, TextIsSettled, WritesPiece}
+pub use Rattle.ac_util.specs.Stream.{AreDecided, IsSettledAt, NoneOpen, buffer_len, CouldChange, CouldNextChange, error_of, IsAllSettled, kept_back_len, last_end, reserve, stream_result, without_last, AnswersStream, answer_of_result, FailsToRead, FailsToReplace, FailsToReplaceWith, HasWrittenFirst, IsNear, IsSettled, IsSettledBefore, IsSettledBy, IsStreamRefused, ReplacesStream, ReplacesStreamWith, settled, StepsAreSettled, TextIsSettled, WritesPiece}
 pub use Rattle.ac_util.specs.Walk.{IsAfter, next_match, repeats, unless_repeated}
 unfoldable pub use Rattle.ac_util.specs.Walk.{walk_after}
 pub use Rattle.ac_util.specs.declared.device.WriteError.{WriteError}

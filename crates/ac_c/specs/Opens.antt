@@ -25,13 +25,16 @@ open_status options bytes ends =
     then limit_status (let patterns = texts_in bytes 0 ends in refusal_or (limit_refusal patterns)
     (engine_refusal (settings_by options) patterns)) else ARGUMENTS
 
--- a call returns the status that is expected, or MEMORY in its place, unless an argument is at fault
-abbrev pub IsStatusOrMemory : ℤ → ℤ → Type 0
-IsStatusOrMemory expected status = (status ≡ expected) ⊎ ((expected ≢ ARGUMENTS) × (status ≡ MEMORY))
+-- a call returns the status that is expected; or MEMORY in its place, unless an argument is at fault, or the list of patterns passes
+-- a limit
+abbrev pub IsOpenStatus : Options → List ℕ → List ℕ → ℤ → Type 0
+IsOpenStatus options bytes ends status =
+    (status ≡ open_status options bytes ends)
+    ⊎ ((open_status options bytes ends ≢ ARGUMENTS) × (limit_refusal (texts_in bytes 0 ends) ≡ None) × (status ≡ MEMORY))
 
 -- a searcher is returned where nothing refuses it, and else the status
 abbrev pub AnswersOpened : Options → List ℕ → List ℕ → Result Searcher ℤ → Type 0
 AnswersOpened options bytes ends result =
     MatchResult result
     (λ searcher. (open_status options bytes ends ≡ OK) × IsOpened options bytes ends searcher)
-    (λ status. (status ≢ OK) × IsStatusOrMemory (open_status options bytes ends) status)
+    (λ status. (status ≢ OK) × IsOpenStatus options bytes ends status)

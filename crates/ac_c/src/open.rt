@@ -1,11 +1,11 @@
 //! The build of a searcher, and its end.
 ghost use Rattle.std.specs.Prelude.{◌≡◌, ◌≢◌, MatchOption};
-ghost use Rattle.ac_c.specs.Opens.{AnswersOpened, IsStatusOrMemory, open_status, IsOpened};
+ghost use Rattle.ac_c.specs.Opens.{AnswersOpened, IsOpenStatus, IsOpened};
 
 use crate::handle::Handle;
 use crate::options::Options;
 use crate::status::{ARGUMENTS, LIMIT, MEMORY, OK};
-use crate::texts::{are_ends, texts_in};
+use crate::texts::{are_ends, passes_limit, texts_in};
 use ac_search::{AhoCorasick, BuildError};
 use std::alloc::Global;
 
@@ -23,7 +23,8 @@ pub extern "C" fn ac_raw_version() -> u32
 /// Builds a searcher by these options over the patterns that stand in `bytes`, each up to its end, and leaves it in `out`.
 /// What `out` held before is freed.
 ///
-/// Returns `OK`; or `ARGUMENTS`, `MEMORY` or `LIMIT`: then `out` is as it was.
+/// Returns `OK`; or `ARGUMENTS`, `MEMORY` or `LIMIT`: then `out` is as it was. Where there are too many patterns, or one is too long,
+/// that is `LIMIT`, whatever memory there is.
 #[unsafe(no_mangle)]
 pub extern "C" fn ac_raw_open(
     alloc: Global,
@@ -32,7 +33,7 @@ pub extern "C" fn ac_raw_open(
     ends: &[usize],
     out: &mut Handle,
 ) -> i32
-    ensures status { IsStatusOrMemory (open_status options.now bytes.now ends.now) result }
+    ensures status { IsOpenStatus options.now bytes.now ends.now result }
     ensures opened { result ≡ OK → MatchOption out.new.searcher ⊥ (IsOpened options.now bytes.now ends.now) }
     ensures otherwise { result ≢ OK → out.new ≡ out.old }
 {
@@ -69,6 +70,9 @@ fn opened(
     };
     if !are_ends(ends, bytes.len()) {
         return Err(ARGUMENTS);
+    }
+    if passes_limit(bytes, ends) {
+        return Err(LIMIT);
     }
     let Ok(patterns) = texts_in(alloc, bytes, ends) else {
         return Err(MEMORY);

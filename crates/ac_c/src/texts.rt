@@ -1,8 +1,9 @@
 //! Lists of texts, which C passes as bytes and the place at which each text ends in them.
-ghost use Rattle.std.specs.Prelude.{◌≡◌, IfOk, length, true};
-ghost use Rattle.ac_search.specs.Patterns.{bytes_of};
+ghost use Rattle.std.specs.Prelude.{◌≡◌, IfOk, is_some, length, true};
+ghost use Rattle.ac_search.specs.Patterns.{bytes_of, limit_refusal};
 ghost use Rattle.ac_c.specs.Texts.{are_ends, texts_in};
 
+use ac_search::PatternID;
 use std::alloc::{AllocError, Global};
 
 /// Returns whether the ends rise and stay within so many bytes.
@@ -17,6 +18,24 @@ pub fn are_ends(ends: &[usize], len: usize) -> bool
         start = *end;
     }
     true
+}
+
+/// Returns whether texts with these ends are too many for a list of patterns, or one is too long. It takes no memory.
+pub fn passes_limit(_bytes: &[u8], ends: &[usize]) -> bool
+    requires { are_ends (length _bytes.now) 0 ends.now ≡ true }
+    ensures { result ≡ is_some (limit_refusal (texts_in _bytes.now 0 ends.now)) }
+{
+    if ends.len() > PatternID::LIMIT {
+        return true;
+    }
+    let mut start = 0;
+    for end in ends {
+        if *end - start > PatternID::MAX {
+            return true;
+        }
+        start = *end;
+    }
+    false
 }
 
 /// Returns the texts that stand one after another in the bytes, each up to its end.

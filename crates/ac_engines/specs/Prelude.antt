@@ -1,4 +1,4 @@
--- The names of this crate that most proofs cite, passed on from one place. Declares nothing.
+-- The names of definitions that most proofs here cite, passed on from one place. Declares nothing.
 pub use Rattle.ac_util.specs.Built.{Built, start_refusal}
 pub use Rattle.ac_util.specs.Classes.{AreClasses, IsNode, SetsApart, alphabet_len, class_at, stride}
 unfoldable pub use Rattle.ac_util.specs.Classes.{class_of, classes_of, singletons, stride2}

@@ -1,6 +1,7 @@
 -- The matches of a walk stand one after another.
-use Rattle.ac_util.proofs.Prelude.{◌≡◌, ℕ, suc, ◌≤◌, false, List, [], ◌∷◌, length, arith, All, AllPairs, All-head, All-tail, All-weaker}
-use Rattle.ac_search.specs.Prelude.{order_of, walk_result, IsAfter, StandApart, StandInOrder}
+use Rattle.ac_util.proofs.Prelude.{◌≡◌, ◌∙◌, ℕ, suc, ◌+◌, ◌-◌, ◌≤◌, Bool, true, false, List, [], ◌∷◌, ◌++◌, length, drop, filter, slice_range, if◌then◌else◌, refl, ap, sym, append_assoc, arith, drop-drop, take-append-drop, All, AllPairs, All-head, All-tail, All-weaker}
+use Rattle.ac_search.specs.Prelude.{order_of, walk_result, IsAfter, StandApart, StandInOrder, LeavesWhole}
+use Rattle.ac_util.specs.Replacement.{exchanged_from}
 use Rattle.ac_automaton.specs.Util.{Built, has_empty, InputView, LiesIn, Occurrence, search_in}
 use Rattle.ac_util.proofs.Lying.{walk_result-lie}
 use Rattle.ac_util.proofs.Shortest.{none-empty}
@@ -46,3 +47,40 @@ pub walk-apart : (built : Built) (input : InputView) → has_empty built ≡ fal
 walk-apart built input some inside =
     apart built input input.start (walk_result built input) some (walk_result-lie built input inside)
     (walk-stands built input inside)
+
+-- what stands between two offsets, and then what follows
+joins : (bytes : List ℕ) (from to : ℕ) → from ≤ to → slice_range bytes from to ++ drop to bytes ≡ drop from bytes
+joins bytes from to less =
+    ap (λ (w : List ℕ). slice_range bytes from to ++ w)
+    (ap (λ (n : ℕ). drop n bytes) (let e : to ≡ from + (to - from) = omega arith in e) ∙ sym (drop-drop (to - from) from bytes))
+    ∙ take-append-drop (to - from) (drop from bytes)
+
+-- matches that stand in order, exchanged for what is there, leave the bytes from an offset on
+leaves : (bytes : List ℕ) (low : ℕ) (ms : List Occurrence) → StandInOrder low (length bytes) ms
+    → exchanged_from bytes (λ m slice. slice) low ms ≡ drop low bytes
+leaves bytes low [] order = refl
+leaves bytes low (m ∷ ms) order =
+    append_assoc (slice_range bytes low m.start) (slice_range bytes m.start m.end) (exchanged_from bytes (λ n slice. slice) m.end ms)
+    ∙ ap (λ (w : List ℕ). slice_range bytes low m.start ++ w)
+    (ap (λ (w : List ℕ). slice_range bytes m.start m.end ++ w) (leaves bytes m.end ms order.3) ∙ joins bytes m.start m.end order.1)
+    ∙ joins bytes low m.start order.0
+
+-- from the beginning on they leave the whole
+pub leaves-whole : (bytes : List ℕ) (ms : List Occurrence) → StandInOrder 0 (length bytes) ms → LeavesWhole bytes ms
+leaves-whole bytes ms order = leaves bytes 0 ms order
+
+-- matches that stand in order from an offset on do so from an earlier one
+earlier : (low later high : ℕ) (ms : List Occurrence) → low ≤ later → StandInOrder later high ms → StandInOrder low high ms
+earlier low later high [] less order = tt
+earlier low later high (m ∷ ms) less order = (omega arith, order.1, order.2, order.3)
+
+-- and so do some of them
+pub filtered : (p : Occurrence → Bool) (low high : ℕ) (ms : List Occurrence) → StandInOrder low high ms
+    → StandInOrder low high (filter p ms)
+filtered p low high [] order = tt
+filtered p low high (m ∷ ms) order = by (p m) (filtered p m.end high ms order.3)
+  where
+    by : (t : Bool) → StandInOrder m.end high (filter p ms) → StandInOrder low high (if t then m ∷ filter p ms else filter p ms)
+    by true rest = (order.0, order.1, order.2, rest)
+    by false rest =
+        earlier low m.end high (filter p ms) (let from = order.0 in let long = order.1 in omega arith) rest

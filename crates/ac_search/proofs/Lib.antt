@@ -5,3 +5,4 @@ pub mod InOrder
 pub mod Words
 pub mod StreamsWritten
 pub mod StreamLoops
+pub mod Between

@@ -173,15 +173,16 @@ module _ {ends : Bool} {built : Built} {first now : Reading} {v : Streaming} (h 
                 subst (Consumes first.left later.left) (sym read)
                     (Consumes-trans first.left now.left later.left v.bytes gives.more h.read fails.moved),
                 fails.failed ∙ ap (λ (n : ℕ). n + 1) h.failed,
+                fails.error,
               ));
           same = ap (λ (n : ℕ). take n (stream_result built w.bytes)) given
               ∙ ap (λ (bs : List ℕ). take v.given (stream_result built bs)) read
               ∙ still bytes gives.given;
           stay = subst (λ (n : ℕ). GivenStay built n w.bytes) (sym given)
-              (subst (GivenStay built v.given) (sym read) (settled-alike bytes v.given w.kept refl gives.settled));
+              (subst (GivenStay built v.given) (sym read) (settled-alike bytes v.given w.kept refl gives.all.settled));
           all = λ standard.
               (let kind : v.built.kind ≡ Standard = ap (λ (b : Built). b.kind) h.built_is ∙ standard in
-              let settled = subst (λ (k : MatchKind). IsSettledBy k v.built bytes v.given w.kept) kind gives.settled in
+              let settled = subst (λ (k : MatchKind). IsSettledBy k v.built bytes v.given w.kept) kind gives.all.settled in
               let all = settled.0 ∙ ap length (same-matches bytes) in
               sym (still bytes gives.given)
               ∙ take_all v.given (stream_result built bytes) (omega arith)

@@ -1,6 +1,6 @@
 -- The replacement of a stream by an engine that supports some starts of its searcher: what it leaves is the searcher's.
-use Rattle.ac_util.proofs.Prelude.{◌≡◌, ◌∙◌, ◌+◌, ℕ, Bool, List, [], ◌∷◌, inl, inr, None, Result, Ok, Err, ◌⊎◌, subst, rules, arith, Bor, MutBor, common_steps}
-use Rattle.ac_search.specs.Prelude.{AnswersStream, AreDecided, Both, FailsToReplace, FailsToReplaceWith, IsSettled, IsSettledAt, IsSettledBefore, IsSettledBy, LeftmostFirst, LeftmostLongest, MatchKind, No, NoneOpen, Reading, ReplacesStream, ReplacesStreamWith, Standard, start_refusal, StartKind, StepsAreSettled, stream_refusal, StreamError, TextIsSettled, Writing}
+use Rattle.ac_util.proofs.Prelude.{◌≡◌, ◌∙◌, ◌+◌, ℕ, Bool, List, [], ◌∷◌, inl, inr, None, Some, Option, IfSome, slice_get, Result, Ok, Err, ◌⊎◌, subst, rules, arith, Bor, MutBor, common_steps}
+use Rattle.ac_search.specs.Prelude.{AnswersStream, AreDecided, Both, CouldChange, IsAllSettled, stream_result, FailsToReplace, FailsToReplaceWith, IsSettled, IsSettledAt, IsSettledBefore, IsSettledBy, LeftmostFirst, LeftmostLongest, MatchKind, No, NoneOpen, Reading, ReplacesStream, ReplacesStreamWith, Standard, start_refusal, StartKind, StepsAreSettled, stream_refusal, StreamError, TextIsSettled, Writing}
 use Rattle.std.specs.Fn.{Mut}
 use Rattle.std.specs.declared.io.Error.{Error}
 use Rattle.ac_automaton.specs.Util.{Built, Occurrence}
@@ -29,6 +29,23 @@ module _ (engine : Built) (start_kind : StartKind) where
   settled-by LeftmostFirst bytes given place h = settled-at bytes given place h
   settled-by LeftmostLongest bytes given place h = settled-at bytes given place h
 
+  -- and the same could still change
+  could-change : (bytes : List ℕ) (m : Occurrence) → CouldChange engine bytes m → CouldChange searcher bytes m
+  could-change bytes m (inl last) = inl last
+  could-change bytes m (inr (place, by, open')) = inr (place, by, (search rules))
+
+  next-could : (bytes : List ℕ) (given : ℕ) (r : Option Occurrence) → IfSome r (CouldChange engine bytes)
+      → IfSome r (CouldChange searcher bytes)
+  next-could bytes given None h = tt
+  next-could bytes given (Some m) h = could-change bytes m h
+
+  pub all-settled : (bytes : List ℕ) (given place : ℕ) → IsAllSettled engine bytes given place → IsAllSettled searcher bytes given place
+  all-settled bytes given place h = record {
+    settled = settled-by engine.kind bytes given place h.settled;
+    near = h.near;
+    next = next-could bytes given (slice_get (stream_result engine bytes) given) h.next;
+  }
+
   module _ (supports : (engine.start_kind ≡ Both) ⊎ (engine.start_kind ≡ start_kind))
       (free : start_refusal start_kind No ≡ None) (unchanged : Type 0) (ends : Bool) (reader new_reader : Reading) where
     refusals : stream_refusal searcher ≡ stream_refusal engine
@@ -45,15 +62,14 @@ module _ (engine : Built) (start_kind : StartKind) where
       last = first.last;
       whole = first.whole;
       short = first.short;
-      settled = settled-by engine.kind before given place first.settled;
-      near = first.near;
+      all = all-settled before given place first.all;
     }
 
     -- with a list of texts
     module _ (texts : List (List ℕ)) (writer new_writer : Writing) where
       text : (bytes : List ℕ) → TextIsSettled engine texts writer new_writer bytes
           → TextIsSettled searcher texts writer new_writer bytes
-      text bytes h = (h.0, h.1, settled-by engine.kind bytes h.0 h.1 h.2, h.3, h.4)
+      text bytes h = (h.0, h.1, all-settled bytes h.0 h.1 h.2, h.3)
 
       abbrev Replaces : Built → Result (Unit {0}) StreamError → Type 0
       Replaces built r =
@@ -103,7 +119,7 @@ module _ (engine : Built) (start_kind : StartKind) where
         (Result (Unit {0}) Error × (MutBor D × Unit {0}))) (closure : F) (writer new_writer : D) where
       steps : (bytes : List ℕ) → StepsAreSettled told closures engine closure writer bytes new_writer
           → StepsAreSettled told closures searcher closure writer bytes new_writer
-      steps bytes h = (h.0, h.1, settled-by engine.kind bytes h.0 h.1 h.2, h.3, h.4)
+      steps bytes h = (h.0, h.1, all-settled bytes h.0 h.1 h.2, h.3)
 
       abbrev Exchanges : Built → Result (Unit {0}) StreamError → Type 0
       Exchanges built r =

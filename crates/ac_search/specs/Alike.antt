@@ -1,11 +1,13 @@
 -- How answers of several settings, engines and spans agree, in what order matches come, and what is written of a stream.
-use Rattle.std.specs.Prelude.{◌≡◌, ℕ, Bool, List, ◌<◌, Err, MatchResult, None, Option, Result, Some, ◌≤◌, IfSome, length, [], ◌∷◌, ⊤}
+use Rattle.std.specs.Prelude.{◌≡◌, ℕ, Bool, List, ◌<◌, Err, MatchResult, None, Option, Result, Some, ◌≤◌, ◌+◌, ◌++◌, IfSome, length, slice_range, [], ◌∷◌, ⊤}
 use Rattle.std.specs.declared.io.Error.{Error}
 use Rattle.ac_util.specs.Device.{Reading, Writing}
 use Rattle.ac_util.specs.Stream.{ExchangesAll, ExchangesBeginning}
 use Rattle.ac_util.specs.declared.error.StreamError.{StreamError}
 use Rattle.ac_automaton.specs.Answers.{Calling, ExchangesStream, ExchangesStreamBy}
 use Rattle.ac_automaton.specs.Util.{all, Built, exchanged, exchanged_in_text, find_refusal, find_result, InputView, kept_back_len, overlapping_iter_refusal, overlapping_refusal, replace_refusal, search_in, stream_refusal, stream_result, IsBetweenCharacters, Occurrence, Occurs, walk_result}
+use Rattle.ac_util.specs.Occurrence.{IsSame, pattern_of}
+use Rattle.ac_util.specs.Replacement.{exchanged_from}
 use Rattle.ac_search.specs.Searchers.{IsBuilt, Searcher, Settings}
 use Rattle.std.specs.List.{AllByRecursion}
 
@@ -76,6 +78,21 @@ ListsOnly Property built input = AllByRecursion (Property built input) (all (sea
 abbrev pub EndsInside : Built → InputView → Occurrence → Type 0
 EndsInside built input m = m.end ≤ length input.haystack
 
+-- the haystack has its pattern there, byte by byte
+abbrev pub IsItsPattern : Built → InputView → Occurrence → Type 0
+IsItsPattern built input m = slice_range input.haystack m.start m.end ≡ pattern_of built.patterns m.pattern
+
+-- the bytes are some bytes, then what is the same as a pattern, and then some more; the match is that of this pattern there
+pub record StandsBetween (built : Built) (bytes : List ℕ) (m : Occurrence) : Type 0 where
+  pub before : List ℕ
+  pub between : List ℕ
+  pub after : List ℕ
+  pub whole : bytes ≡ before ++ (between ++ after)
+  pub numbered : m.pattern < length built.patterns
+  pub same : IsSame built.ignores_case (pattern_of built.patterns m.pattern) between
+  pub start : m.start ≡ length before
+  pub end : m.end ≡ length before + length between
+
 -- the number of its pattern is less than a count
 abbrev pub IsNumberedBelow : ℕ → Built → InputView → Occurrence → Type 0
 IsNumberedBelow count built input m = m.pattern < count
@@ -93,6 +110,10 @@ StandInOrder low high (m ∷ ms) = (low ≤ m.start) × (m.start ≤ m.end) × (
 abbrev pub StandApart : ℕ → ℕ → List Occurrence → Type 0
 StandApart low high [] = ⊤
 StandApart low high (m ∷ ms) = (low ≤ m.start) × (m.start < m.end) × (m.end ≤ high) × StandApart m.end high ms
+
+-- bytes with each of these matches exchanged for what they have there are these bytes
+abbrev pub LeavesWhole : List ℕ → List Occurrence → Type 0
+LeavesWhole bytes ms = exchanged_from bytes (λ m slice. slice) 0 ms ≡ bytes
 
 -- each byte is ASCII
 abbrev pub AreAscii : List ℕ → Type 0

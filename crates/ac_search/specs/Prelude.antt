@@ -1,12 +1,12 @@
--- The names of this crate that most proofs cite, passed on from one place. Declares nothing.
+-- The names of definitions that most proofs here cite, passed on from one place. Declares nothing.
 pub use Rattle.ac_util.specs.Built.{AnswersUnless, IsBetweenCharacters, find_refusal, overlapping_refusal, start_refusal, stream_refusal, walk_result}
 pub use Rattle.ac_util.specs.Device.{Reading, Writing}
-pub use Rattle.ac_util.specs.Occurrence.{Occurs, Search}
+pub use Rattle.ac_util.specs.Occurrence.{IsSame, Occurs, Search, pattern_of, plain, plain_byte}
 pub use Rattle.ac_util.specs.Patterns.{usize_max}
 pub use Rattle.ac_util.specs.Pick.{IsPick, order_of}
 unfoldable pub use Rattle.ac_util.specs.Pick.{pick}
 pub use Rattle.ac_util.specs.Replacement.{Calls}
-pub use Rattle.ac_util.specs.Stream.{AlwaysWritesOut, AnswersStream, AreDecided, ExchangesBeginning, FailsToRead, FailsToReplace, FailsToReplaceWith, IsSettled, IsSettledAt, IsSettledBefore, IsSettledBy, IsStreamRefused, NoneOpen, ReplacesStream, ReplacesStreamWith, StepsAreSettled, TextIsSettled, by_length, stream_result, text_of}
+pub use Rattle.ac_util.specs.Stream.{AlwaysWritesOut, AnswersStream, AreDecided, CouldChange, ExchangesBeginning, FailsToRead, FailsToReplace, FailsToReplaceWith, IsAllSettled, IsSettled, IsSettledAt, IsSettledBefore, IsSettledBy, IsStreamRefused, NoneOpen, ReplacesStream, ReplacesStreamWith, StepsAreSettled, TextIsSettled, by_length, stream_result, text_of}
 pub use Rattle.ac_util.specs.Walk.{IsAfter}
 pub use Rattle.ac_util.specs.declared.error.MatchError.{MatchError}
 pub use Rattle.ac_util.specs.declared.error.StreamError.{StreamError}
@@ -22,7 +22,7 @@ pub use Rattle.ac_automaton.specs.Streams.{EndsNow, GivesError, GivesNextMatch, 
 pub use Rattle.ac_automaton.specs.declared.automaton.overlap.OverlappingState.{OverlappingState}
 pub use Rattle.ac_automaton.specs.declared.automaton.stream_settled.Phase.{Phase}
 pub use Rattle.ac_automaton.specs.declared.automaton.stream_settled.Phase.TheVariants.{Ended, Failed, Open}
-pub use Rattle.ac_search.specs.Alike.{AreAscii, AreWords, ClosuresWrite, ListsWrite, StandApart, StandInOrder}
+pub use Rattle.ac_search.specs.Alike.{AreAscii, AreWords, ClosuresWrite, IsItsPattern, LeavesWhole, ListsWrite, StandApart, StandsBetween, StandInOrder}
 pub use Rattle.ac_search.specs.Built.{AreTexts, LiesIn, search_in}
 pub use Rattle.ac_search.specs.Engines.{Supports, built_of, searcher_of, states_of, streaming_in}
 pub use Rattle.ac_search.specs.Input.{InputView, whole_input}

@@ -1,5 +1,5 @@
 -- What a loop over the matches of a stream has seen.
-use Rattle.std.specs.Prelude.{◌≡◌, ◌≢◌, ℕ, ◌+◌, ◌<◌, ◌≤◌, Bool, false, true, List, [], ◌∷◌, ◌++◌, length, take}
+use Rattle.std.specs.Prelude.{◌≡◌, ◌≢◌, ℕ, ◌+◌, ◌<◌, ◌≤◌, Bool, false, true, List, [], ◌∷◌, ◌++◌, length, take, Some}
 use Rattle.std.specs.Io.KnownBytes.{Consumes, IsAtEnd}
 use Rattle.std.specs.declared.io.Error.{Error}
 use Rattle.ac_util.specs.declared.error.StreamError.{StreamError}
@@ -46,7 +46,7 @@ pub record HasGivenAll (ends : Bool) (built : Built) (first now : Reading) (befo
 -- it has met an error, and has given those matches of what was read that stay; under Standard these are all of them
 pub record HasStoppedAt (built : Built) (first now : Reading) (before v : Streaming) (e : StreamError) : Type 0 where
   pub read : (cause : Error) → e ≡ Io cause
-      → Consumes first.left now.left v.bytes × (now.failed ≡ first.failed + 1)
+      → Consumes first.left now.left v.bytes × (now.failed ≡ first.failed + 1) × (now.error ≡ Some cause)
   pub same : given_matches built v ≡ given_matches built before
   pub stay : GivenStay built v.given v.bytes
   pub all : built.kind ≡ Standard → given_matches built before ≡ stream_result built v.bytes

@@ -1,14 +1,15 @@
 //! Laws that users of a searcher may rely on, each the contract of a function that does nothing. They are about the
 //! definitions that the contracts of the searches are made of: nothing is called, nothing is assumed.
-ghost use Rattle.std.specs.Prelude.{◌≡◌, ◌≢◌, ◌↔◌, All, Bool, IsTrue, List, None, false, length, map, true, ℕ, ◌≤◌, ◌+◌, ◌-◌};
+ghost use Rattle.std.specs.Prelude.{◌≡◌, ◌≢◌, ◌↔◌, All, Bool, Contains, IsTrue, List, None, false, length, map, true, ℕ, ◌≤◌, ◌+◌, ◌-◌};
 ghost use Rattle.std.specs.Str.{IsUtf8};
+ghost use Rattle.ac_util.specs.Input.{whole_input};
 ghost use Rattle.ac_util.specs.Replacement.{Calls};
 ghost use Rattle.ac_util.specs.Stream.{AlwaysWritesOut, by_length, text_of};
-ghost use Rattle.ac_automaton.specs.Util.{AreTexts, InputView, input_of, Built, find_refusal, find_result, has_empty, LiesIn, MatchKind, Occurrence, shortest_len, StartKind, stream_result, walk_result, IsSettledBy};
+ghost use Rattle.ac_automaton.specs.Util.{all, AreTexts, InputView, input_of, Built, find_refusal, find_result, exchanged, exchanged_in_text, has_empty, LiesIn, MatchKind, Occurrence, Occurs, search_in, shortest_len, StartKind, stream_result, walk_result, IsAllSettled, IsSettledBy};
 ghost use Rattle.ac_automaton.specs.Iterators.{GoesOn};
 ghost use Rattle.ac_automaton.specs.Overlaps.{ListsNext};
 ghost use Rattle.ac_automaton.specs.Streams.{Streams, items_left};
-ghost use Rattle.ac_search.specs.Alike.{ClosuresWrite, ListsWrite, UnchangedBegins, BuildAlike, FindAlike, ListAlike, ReplaceAlike, StreamAlike, EndsAtError, LeavesLess, StaysEnded, EndsInside, FindsOnly, IsNumberedBelow, ListsOnly, SomeOccurs, StandApart, StandInOrder, StandsBetweenCharacters, WalksOnly, AreWords};
+ghost use Rattle.ac_search.specs.Alike.{ClosuresWrite, ListsWrite, UnchangedBegins, BuildAlike, FindAlike, ListAlike, ReplaceAlike, StreamAlike, EndsAtError, LeavesLess, StaysEnded, EndsInside, FindsOnly, IsItsPattern, IsNumberedBelow, LeavesWhole, ListsOnly, SomeOccurs, StandApart, StandInOrder, StandsBetween, StandsBetweenCharacters, WalksOnly, AreWords};
 ghost use Rattle.ac_search.specs.Searchers.{Settings, with_start};
 ghost use Rattle.ac_search.specs.StreamLoops.{BeginsUnderway, ErrorLeavesSettled, MatchGoesOn, NoneEnds};
 ghost use Rattle.ac_search.specs.declared.ahocorasick.choice.AhoCorasickKind.{AhoCorasickKind};
@@ -84,6 +85,16 @@ pub fn matches_stand_in_order<A: Allocator>(searcher: &AhoCorasick<A>, input: In
         (walk_result searcher.now.built (input_of input.entry)) }
 {}
 
+/// The matches of a walk, and what stands between them, make the whole haystack: with each match exchanged for what the haystack
+/// has there, it stays as it is. So do a text and a stream.
+///
+/// Call this where a haystack is cut into its matches and the gaps between them, and put together again.
+pub fn matches_and_gaps_make_the_whole()
+    ensures bytes { (built : Built) (bytes : List ℕ) → LeavesWhole bytes (exchanged built bytes) }
+    ensures text { (built : Built) (text : List ℕ) → LeavesWhole text (exchanged_in_text built text) }
+    ensures stream { (built : Built) (bytes : List ℕ) → LeavesWhole bytes (stream_result built bytes) }
+{}
+
 /// Where no pattern is empty, the matches of a walk stand one after another, and none of them is empty.
 ///
 /// Call this as `matches_stand_in_order`, where each match has to have a byte. The loop's invariant is then `StandApart`.
@@ -128,6 +139,28 @@ pub fn answers_cut_no_character<A: Allocator>(searcher: &AhoCorasick<A>, input: 
     ensures find { FindsOnly StandsBetweenCharacters searcher.now.built (input_of input.entry) }
     ensures walk { WalksOnly StandsBetweenCharacters searcher.now.built (input_of input.entry) }
     ensures listing { ListsOnly StandsBetweenCharacters searcher.now.built (input_of input.entry) }
+{}
+
+/// Where case counts, what the haystack has at a match is the match's pattern: at the one that a find returns, at each of a
+/// walk, and at each item of the listing. Where case is ignored it is the same as the pattern (`answers_lie_inside`).
+///
+/// Call this where a slice of the haystack at a match stands for the pattern.
+pub fn answers_are_their_patterns<A: Allocator>(searcher: &AhoCorasick<A>, input: Input<'_>)
+    requires { searcher.now.built.ignores_case ≡ false }
+    ensures find { FindsOnly IsItsPattern searcher.now.built (input_of input.entry) }
+    ensures walk { WalksOnly IsItsPattern searcher.now.built (input_of input.entry) }
+    ensures listing { ListsOnly IsItsPattern searcher.now.built (input_of input.entry) }
+{}
+
+/// A pattern occurs in a haystack exactly where that is some bytes, then the pattern, and then some more; and exactly there it
+/// has an item in the listing.
+///
+/// Call this to say what a match, or that there is none, means by the haystack alone.
+pub fn patterns_stand_between()
+    ensures occurs { (built : Built) (bytes : List ℕ) (m : Occurrence)
+        → Occurs (search_in built (whole_input bytes)) m ↔ StandsBetween built bytes m }
+    ensures listed { (built : Built) (bytes : List ℕ) (m : Occurrence)
+        → Contains (all (search_in built (whole_input bytes))) m ↔ StandsBetween built bytes m }
 {}
 
 /// A find returns a match exactly if something occurs, whatever the match kind and `earliest`.
@@ -201,8 +234,10 @@ pub fn finder_goes_on()
 /// The search that `AhoCorasick::try_stream_finder` returns is for what its searcher was built from, but its engine may
 /// support more starts. Call this where what that search says of a failed read has to be said of the searcher.
 pub fn streams_settle_alike()
-    ensures { (kind : MatchKind) (built : Built) (start : StartKind) → (bytes : List ℕ) (given place : ℕ)
+    ensures some { (kind : MatchKind) (built : Built) (start : StartKind) → (bytes : List ℕ) (given place : ℕ)
         → IsSettledBy kind (with_start built start) bytes given place → IsSettledBy kind built bytes given place }
+    ensures all { (built : Built) (start : StartKind) → (bytes : List ℕ) (given place : ℕ)
+        → IsAllSettled (with_start built start) bytes given place → IsAllSettled built bytes given place }
 {}
 
 /// Two values of `AhoCorasickKind` compare equal exactly if they are the same, and a clone of one is that value.

@@ -33,7 +33,7 @@ pub use ac_automaton::automaton::{
 pub use ac_engines::dfa;
 pub use ac_util::alphabet::ByteClasses;
 pub use ac_util::device::{
-    Bytes, FromRead, IntoWrite, Sink, Source, WriteError, Written, write_all,
+    Bytes, FromRead, IntoWrite, Misses, Sink, Source, WriteError, Written, write_all,
 };
 pub use ac_util::error::{BuildError, MatchError, ReplaceError, StreamError};
 pub use ac_util::looks::{Looks, Tape, open};

@@ -56,3 +56,4 @@ pub mod NodeCommits
 pub mod DeadSteps
 pub mod NodePicks
 pub mod StreamExchanges
+pub mod StillOpen

@@ -96,6 +96,11 @@ find-passes f (x ∷ ws) u e = by (f x) refl e (λ h. find-passes f ws u h)
     by true is h on = let same : x ≡ u = cc in ap f (sym same) ∙ is
     by false is h on = on h
 
+-- so the node that is reached is one
+pub node-passes : (kind : MatchKind) (patterns : List (List ℕ)) (w u : List ℕ) → reached kind patterns No w ≡ Some u
+    → is_node kind patterns u ≡ true
+node-passes kind patterns w u stands = find-passes (is_node kind patterns) _ u stands
+
 -- an automaton that has read the text of a search, unanchored
 module _ (kind : MatchKind) (q : Search) (free : q.anchored ≡ No) (ordered : q.low ≤ q.high)
     (inside : q.high ≤ length q.haystack) where

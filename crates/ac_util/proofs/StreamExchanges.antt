@@ -197,8 +197,8 @@ module _ {F D : Type 0} (told : D → Writing)
       (old new : D) (e : StreamError) → AlwaysWritesOut (Calls closures) told write → stream_refusal built ≡ None
       → FailsToReplaceWith told closures built closure old ends reader new_reader new e
       → ExchangesBeginning built write ends reader new_reader (told old) (told new)
-  closure-begun built write ends reader new_reader closure old new e writes served (bytes, inl (fails, (given, place, settled, near, (left, steps))), small) =
-      read-begins built write ends reader new_reader (told old) (told new) bytes given place e served fails settled
+  closure-begun built write ends reader new_reader closure old new e writes served (bytes, inl (fails, (given, place, settled, (left, steps))), small) =
+      read-begins built write ends reader new_reader (told old) (told new) bytes given place e served fails settled.settled
       (steps-write told closures write writes (take place bytes) 0 (take given (stream_result built bytes))
       (record { closure = closure; destination = old }) (record { closure = left; destination = new }) steps)
   closure-begun built write ends reader new_reader closure old new e writes served (bytes, inr fails, small) =
@@ -215,8 +215,8 @@ module _ (built : Built) (texts : List (List ℕ)) (ends : Bool) (reader new_rea
   pub texts-begun : (e : StreamError) → stream_refusal built ≡ None
       → FailsToReplace built texts old new ends reader new_reader e
       → ExchangesBeginning built (text_of texts) ends reader new_reader old new
-  texts-begun e served (bytes, inl (fails, (given, place, settled, near, all)), small) =
-      read-begins built (text_of texts) ends reader new_reader old new bytes given place e served fails settled all
+  texts-begun e served (bytes, inl (fails, (given, place, settled, all)), small) =
+      read-begins built (text_of texts) ends reader new_reader old new bytes given place e served fails settled.settled all
   texts-begun e served (bytes, inr fails, small) =
       part-begins built (text_of texts) ends reader new_reader old new bytes fails.given fails.place served fails.settled
       (begins-failed old new (exchanged_to built (text_of texts) bytes fails.given fails.place) fails.failure fails.writes)

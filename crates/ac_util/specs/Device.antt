@@ -1,5 +1,5 @@
 -- What a read and a write do, and what many of them do: which bytes move, and which counts rise.
-use Rattle.std.specs.Prelude.{◌≡◌, ℕ, ◌+◌, ◌<◌, ◌≤◌, Bool, true, ◌&&◌, ◌==◌, nat_lt, List, ◌++◌, length, take, Option, Result, MatchResult, if◌then◌else◌}
+use Rattle.std.specs.Prelude.{◌≡◌, ℕ, ◌+◌, ◌<◌, ◌≤◌, Bool, true, ◌==◌, List, ◌++◌, length, take, Option, Some, Result, MatchResult, if◌then◌else◌}
 use Rattle.std.specs.Io.{StartsWith}
 use Rattle.std.specs.IoError.{error_kind}
 use Rattle.std.specs.declared.io.Error.{Error}
@@ -9,23 +9,32 @@ use Rattle.ac_util.specs.declared.device.WriteError.{WriteError}
 use Rattle.ac_util.specs.declared.device.WriteError.TheVariants.{Io, WriteZero}
 use Rattle.ac_util.specs.Patterns.{usize_max}
 
--- the bytes that a reader has left, if it reports them; how many of its calls failed; and how many reads into a
--- slice that isn't empty gave no byte
+-- what is noted of the calls of a reader or a writer: how many failed, and the error of the last one; and how many moved no
+-- byte
+pub record Missed : Type 0 where
+  pub failed : ℕ
+  pub error : Option Error
+  pub idles : ℕ
+
+-- the bytes that a reader has left, if it reports them; how many of its calls failed, and the error of the last one; and
+-- how many reads gave no byte
 pub record Reading : Type 0 where
   pub left : Option (List ℕ)
   pub failed : ℕ
+  pub error : Option Error
   pub empties : ℕ
 
--- the bytes that were written, if the writer reports them; how many of its calls failed; and how many writes of a
--- piece that isn't empty took no byte
+-- the bytes that were written, if the writer reports them; how many of its calls failed, and the error of the last one;
+-- and how many writes took no byte
 pub record Writing : Type 0 where
   pub written : Option (List ℕ)
   pub failed : ℕ
+  pub error : Option Error
   pub idles : ℕ
 
--- 1 where nothing moved though there was room, else 0
-abbrev pub idle : ℕ → ℕ → ℕ
-idle moved room = if moved == 0 && nat_lt 0 room then 1 else 0
+-- 1 where nothing moved, else 0
+abbrev pub idle : ℕ → ℕ
+idle moved = if moved == 0 then 1 else 0
 
 -- n bytes came and are the first ones of `into`. Where `ends` is true, a slice that isn't empty gets none
 -- only at the end of the bytes
@@ -34,23 +43,24 @@ pub record Took (ends : Bool) (old new : Reading) (into : List ℕ) (n : ℕ) : 
   pub moved : Consumes old.left new.left (take n into)
   pub ended : ends ≡ true → n ≡ 0 → 0 < length into → IsAtEnd new.left
   pub failed : new.failed ≡ old.failed
-  pub empties : new.empties ≡ old.empties + idle n (length into)
+  pub empties : new.empties ≡ old.empties + idle n
 
--- a read answered r: it took what r says, or it failed and the one thing that changed is the count of failures
-abbrev pub Reads : {E : Type 0} → Bool → Reading → Reading → Result ℕ E → List ℕ → Type 0
+-- a read answered r: it took what r says, or it failed, and nothing changed but the count of failures and their last error
+abbrev pub Reads : Bool → Reading → Reading → Result ℕ Error → List ℕ → Type 0
 Reads ends old new r into =
-    MatchResult r (Took ends old new into) (λ _. new ≡ record old { failed = old.failed + 1 })
+    MatchResult r (Took ends old new into) (λ e. new ≡ record old { failed = old.failed + 1; error = Some e })
 
 -- the first n bytes of the piece went over
 pub record Gave (old new : Writing) (piece : List ℕ) (n : ℕ) : Type 0 where
   pub within : n ≤ length piece
   pub moved : Appends old.written new.written (take n piece)
   pub failed : new.failed ≡ old.failed
-  pub idles : new.idles ≡ old.idles + idle n (length piece)
+  pub idles : new.idles ≡ old.idles + idle n
 
--- a write answered r: it gave what r says, or it failed and the one thing that changed is the count of failures
-abbrev pub Writes : {E : Type 0} → Writing → Writing → Result ℕ E → List ℕ → Type 0
-Writes old new r piece = MatchResult r (Gave old new piece) (λ _. new ≡ record old { failed = old.failed + 1 })
+-- a write answered r: it gave what r says, or it failed, and nothing changed but the count of failures and their last error
+abbrev pub Writes : Writing → Writing → Result ℕ Error → List ℕ → Type 0
+Writes old new r piece =
+    MatchResult r (Gave old new piece) (λ e. new ≡ record old { failed = old.failed + 1; error = Some e })
 
 -- the bytes came, by reads of which each gave some
 pub record ReadsSome (old new : Reading) (bytes : List ℕ) : Type 0 where
@@ -66,10 +76,11 @@ pub record ReadsAll (ends : Bool) (old new : Reading) (bytes : List ℕ) : Type 
   pub failed : new.failed ≡ old.failed
   pub empties : new.empties ≡ old.empties + 1
 
--- the bytes came, by reads of which each gave some, and then a read has failed
-pub record ReadsUntilFailure (old new : Reading) (bytes : List ℕ) : Type 0 where
+-- the bytes came, by reads of which each gave some, and then a read has failed with this error
+pub record ReadsUntilFailure (old new : Reading) (bytes : List ℕ) (e : Error) : Type 0 where
   pub moved : Consumes old.left new.left bytes
   pub failed : new.failed ≡ old.failed + 1
+  pub error : new.error ≡ Some e
   pub empties : new.empties ≡ old.empties
 
 -- the bytes came, and then a read gave so many that usize doesn't count all of them and those `seen` before
@@ -93,9 +104,9 @@ pub record WritesSome (old new : Writing) (bytes : List ℕ) : Type 0 where
   pub left_out : length part < length bytes
   pub moved : Appends old.written new.written part
 
--- one write has failed, or one took nothing, by the error
+-- one write has failed with the error in it, or one took nothing
 abbrev pub HasCause : Writing → Writing → WriteError → Type 0
-HasCause old new (Io e) = (new.failed ≡ old.failed + 1) × (new.idles ≡ old.idles)
+HasCause old new (Io e) = (new.failed ≡ old.failed + 1) × (new.error ≡ Some e) × (new.idles ≡ old.idles)
 HasCause old new WriteZero = (new.failed ≡ old.failed) × (new.idles ≡ old.idles + 1)
 
 -- the error is that of the write that failed, or its kind says that a write took nothing

@@ -1,4 +1,4 @@
--- The names of this crate that most proofs cite, passed on from one place. Declares nothing.
+-- The names of definitions that most proofs here cite, passed on from one place. Declares nothing.
 pub use Rattle.ac_util.specs.Built.{AreTexts, Built, Call, Find, IsBetweenCharacters, LiesIn, OverlappingByState, OverlappingIterator, Replace, Stream, exchanged, find_result, has_empty, refusal, search_in, stream_refusal, walk_result}
 pub use Rattle.ac_util.specs.Classes.{AreClasses, IsLawful, SetsApart, alphabet_len, class_at, is_in_patterns, stride}
 unfoldable pub use Rattle.ac_util.specs.Classes.{class_of, classes_of, singletons, stride2}
@@ -17,10 +17,9 @@ pub use Rattle.ac_util.specs.Prefilters.{BeginWith, IsCandidateFor, IsFirstAmong
 unfoldable pub use Rattle.ac_util.specs.Prefilters.{first_bytes}
 pub use Rattle.ac_util.specs.Prefilters.Skip.{FirstOf, Needle}
 pub use Rattle.ac_util.specs.Replacement.{AlwaysWrites, Answer, AppendsAll, AppendsBeginning, AreInOrder, Calls, CallsNoMore, ClosureExchanges, Continues, Fails, MatchAnswer, OnlyAppends, ReplacementSteps, Replacing, StartFrom, Turn, WritesText, answer_of, exchanged_from, is_char_boundary, is_whole, replaced, replaced_from, whole_characters}
-pub use Rattle.ac_util.specs.Stream.{AlwaysWritesOut, AreDecided, ExchangesAll, ExchangesBeginning, FailsToRead, FailsToReplace, FailsToReplaceWith, IsOpen, IsSettled, IsSettledAt, IsSettledBy, NoneOpen, ReplacesStream, ReplacesStreamWith, WritesPiece, answer_of_result, by_length, exchanged_to, kept_back_len, last_end, settled, stream_exchanged, stream_result, text_of, without_last}
+pub use Rattle.ac_util.specs.Stream.{AlwaysWritesOut, AreDecided, CouldChange, CouldNextChange, ExchangesAll, ExchangesBeginning, FailsToRead, FailsToReplace, FailsToReplaceWith, IsAllSettled, IsOpen, IsSettled, IsSettledAt, IsSettledBy, NoneOpen, ReplacesStream, ReplacesStreamWith, WritesPiece, answer_of_result, by_length, exchanged_to, kept_back_len, last_end, settled, stream_exchanged, stream_result, text_of, without_last}
 pub use Rattle.ac_util.specs.Walk.{IsAfter, continued, next_match, repeats, unless_repeated, walk}
 unfoldable pub use Rattle.ac_util.specs.Walk.{walk_after}
-pub use Rattle.ac_util.specs.contracts.history.History.{the_row, the_type}
 pub use Rattle.ac_util.specs.declared.device.WriteError.{WriteError}
 pub use Rattle.ac_util.specs.declared.error.BuildError.TheVariants.{PatternIdOverflow, PatternTooLong}
 pub use Rattle.ac_util.specs.declared.error.MatchError.{MatchError}

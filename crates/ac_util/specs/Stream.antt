@@ -1,5 +1,5 @@
 -- Streams: what is found in one, what of it is settled, and what stands after its replacement.
-use Rattle.std.specs.Prelude.{ℕ, ◌-◌, ◌*◌, List, [], ◌∷◌, ◌++◌, length, min, max, slice_index_or, take, ◌≡◌, ◌+◌, ◌<◌, ◌≤◌, true, All, drop, map, ◌⊎◌, Bool, Option, None, Some, Result, Ok, Err, MatchResult}
+use Rattle.std.specs.Prelude.{ℕ, ◌-◌, ◌*◌, List, [], ◌∷◌, ◌++◌, length, min, max, slice_get, slice_index_or, take, IfSome, ◌≡◌, ◌+◌, ◌<◌, ◌≤◌, true, All, drop, map, ◌⊎◌, Bool, Option, None, Some, Result, Ok, Err, MatchResult}
 use Rattle.ac_util.specs.declared.device.WriteError.{WriteError}
 use Rattle.ac_util.specs.declared.device.WriteError.TheVariants.{Io as WriteFailed, WriteZero as WroteNothing}
 use Rattle.ac_util.specs.declared.error.StreamError.{StreamError}
@@ -82,25 +82,35 @@ pub record IsSettledAt (built : Built) (bytes : List ℕ) (given place : ℕ) : 
   pub later : All (λ m. place ≤ m.start) (drop given (stream_result built bytes))
   pub decided : AreDecided built bytes 0 (take given (stream_result built bytes)) place
 
+-- a match of these bytes could still change when the last of them came: it is that byte, or an offset no later than its start
+-- was open before
+abbrev pub CouldChange : Built → List ℕ → Occurrence → Type 0
+CouldChange built bytes m =
+    (m.start + 1 ≡ length bytes) ⊎ ((place : ℕ) × (place ≤ m.start) × IsOpen built (without_last 1 bytes) place)
+
+-- so could the match that follows the first so many, if there is one
+abbrev pub CouldNextChange : Built → List ℕ → ℕ → Type 0
+CouldNextChange built bytes given = IfSome (slice_get (stream_result built bytes) given) (CouldChange built bytes)
+
 -- one of five things, by why a stream ended
-abbrev pub MatchStreamError : StreamError → (MatchError → Type 0) → Type 0 → Type 0 → Type 0 → Type 0 → Type 0
+abbrev pub MatchStreamError : StreamError → (MatchError → Type 0) → Type 0 → (Error → Type 0) → Type 0 → Type 0 → Type 0
 MatchStreamError (Match e) refused memory io zero long = refused e
 MatchStreamError Memory refused memory io zero long = memory
-MatchStreamError (Io e) refused memory io zero long = io
+MatchStreamError (Io e) refused memory io zero long = io e
 MatchStreamError WriteZero refused memory io zero long = zero
 MatchStreamError TooLong refused memory io zero long = long
 
 -- a refused call changes nothing; it is refused for lack of memory only where the settings don't refuse it
 abbrev pub IsStreamRefused : Option MatchError → Type 0 → StreamError → Type 0
 IsStreamRefused refusal unchanged e =
-    MatchStreamError e (λ m. (refusal ≡ Some m) × unchanged) ((refusal ≡ None) × unchanged) ⊥ ⊥ ⊥
+    MatchStreamError e (λ m. (refusal ≡ Some m) × unchanged) ((refusal ≡ None) × unchanged) (λ _. ⊥) ⊥ ⊥
 
 -- the replacement is made as `whole` says; or it is refused, and has changed nothing; or it ends early, as `fails` says
 abbrev pub AnswersStream : Option MatchError → Type 0 → Type 0 → (StreamError → Type 0) → Result (Unit {0}) StreamError → Type 0
 AnswersStream refusal unchanged whole fails result =
     MatchResult result (λ _. (refusal ≡ None) × whole) (λ e. IsStreamRefused refusal unchanged e ⊎ ((refusal ≡ None) × fails e))
 
--- after so many bytes of a stream these came, and then a read has failed, or brought more than usize counts
+-- after so many bytes of a stream these came, and then a read has failed with the error, or brought more than usize counts
 abbrev pub FailsToRead : ℕ → Reading → Reading → List ℕ → StreamError → Type 0
 FailsToRead seen old new bytes e =
     MatchStreamError e (λ _. ⊥) ⊥ (ReadsUntilFailure old new bytes) ⊥ (ReadsTooMany seen old new bytes)
@@ -127,14 +137,20 @@ IsSettled ends built old new bytes given place =
     (ReadsSome old new bytes × IsSettledBy built.kind built bytes given place)
     ⊎ (ReadsAll ends old new bytes × (given ≡ length (stream_result built bytes)) × (place ≡ length bytes))
 
+-- these bytes of a stream came, and it is settled as far as an offset by so many of their matches. That is all that is settled: no
+-- more bytes follow than the longest pattern has, and the next match could still change when the last byte came
+pub record IsAllSettled (built : Built) (bytes : List ℕ) (given place : ℕ) : Type 0 where
+  pub settled : IsSettledBy built.kind built bytes given place
+  pub near : IsNear built bytes place
+  pub next : CouldNextChange built bytes given
+
 -- by these bytes without the last ones, which are no more than a buffer has, the stream is settled as far as an offset, by so many of
 -- their matches
 pub record IsSettledBefore (built : Built) (bytes before : List ℕ) (given place : ℕ) : Type 0 where
   pub last : List ℕ
   pub whole : bytes ≡ before ++ last
   pub short : length last ≤ buffer_len built.patterns
-  pub settled : IsSettledBy built.kind built before given place
-  pub near : IsNear built before place
+  pub all : IsAllSettled built before given place
 
 module _ {F D : Type 0} (told : D → Writing) where
   -- the bytes are written, all of them; or a beginning of them, and then a write has failed or took nothing
@@ -174,7 +190,7 @@ module _ {F D : Type 0} (told : D → Writing)
   -- the steps were made as far as the stream is settled, of which these bytes came
   abbrev pub StepsAreSettled : List ℕ → D → Type 0
   StepsAreSettled bytes new =
-      (given place : ℕ) × IsSettledBy built.kind built bytes given place × IsNear built bytes place
+      (given place : ℕ) × IsAllSettled built bytes given place
       × StreamStepsLead bytes (take given (stream_result built bytes)) place None new
 
   -- the steps over these bytes as far as an offset have ended with an error. Without the last bytes, of which there are no more than a
@@ -237,7 +253,7 @@ module _ (built : Built) (texts : List (List ℕ)) (old new : Writing) where
   -- the replaced text was written as far as the stream is settled, of which these bytes came
   abbrev pub TextIsSettled : List ℕ → Type 0
   TextIsSettled bytes =
-      (given place : ℕ) × IsSettledBy built.kind built bytes given place × IsNear built bytes place
+      (given place : ℕ) × IsAllSettled built bytes given place
       × WritesAll old new (exchanged_to built (text_of texts) bytes given place)
 
   -- first the replaced text was written as far as the stream is settled without the last bytes, of which there are no more than a

@@ -3,12 +3,12 @@ ghost use Rattle.std.specs.Prelude.{◌≡◌, ◌+◌, ◌<◌, ◌≤◌, leng
 ghost use Rattle.ac_util.specs.Input.{no_counts, one_more_call, one_more_read, more_looks, input_of};
 ghost use Rattle.ac_util.specs.Prefilters.{IsFirstAmong, IsNeedleMatch, PromisesFor, IsCandidateFor, first_bytes_of, skip_of};
 
+use crate::history::Remembered;
 use crate::prefilter::{Candidate, FirstBytes, Needle, Prefilter};
 use crate::search::{Input, Match, Span};
 use crate::tally::Tally;
 use std::alloc::Allocator;
 use std::marker::Model;
-use std::snapshot::Snapshot;
 
 /// How many bytes a search has read, how many states it has looked at, and how often it has called a prefilter.
 ///
@@ -74,7 +74,7 @@ impl Looks {
 #[derive(Drop)]
 pub struct Tape<'h> {
     haystack: &'h [u8],
-    place: Snapshot<usize>,
+    place: Remembered<usize>,
 }
 
 impl<'h> Model for Tape<'h> {
@@ -93,7 +93,7 @@ impl<'h> Tape<'h> {
     {
         Tape {
             haystack,
-            place: Snapshot::of(&0),
+            place: Remembered::of(&0),
         }
     }
 
@@ -111,7 +111,7 @@ impl<'h> Tape<'h> {
         looks.read();
         let haystack = self.haystack;
         let _len = haystack.len();
-        self.place = Snapshot::of(&(at + 1));
+        self.place = Remembered::of(&(at + 1));
         haystack[at]
     }
 }

@@ -7,14 +7,13 @@ use Rattle.ac_search.specs.declared.WriteError.{WriteError}
 use Rattle.ac_search.specs.declared.WriteError.TheVariants.{Io as WriteFailed, WriteZero as WroteNothing}
 use Rattle.ac_search.specs.declared.StreamError.{StreamError}
 use Rattle.ac_search.specs.declared.StreamError.TheVariants.{Io as DeviceFailed, Match as Refused, Memory as NoBuffer, TooLong as StreamTooLong, WriteZero as TookNothing}
-use Rattle.ac_search.specs.declared.MatchKind.{MatchKind}
 use Rattle.ac_search.specs.declared.StartKind.{StartKind}
 use Rattle.ac_search.specs.Built.{Built, exchanged, has_empty, stream_refusal}
 use Rattle.ac_search.specs.Device.{Reading, ReadsAll, ReadsSome, Writing, WritesAll, WritesUntilFailure}
 use Rattle.ac_search.specs.Laws.{SettledBegins}
 use Rattle.ac_search.specs.Occurrence.{Occurrence}
 use Rattle.ac_search.specs.Replacement.{replaced}
-use Rattle.ac_search.specs.Stream.{error_of, exchanged_to, FailsToReplace, IsSettled, IsSettledBy, IsStreamRefused, stream_result, text_of}
+use Rattle.ac_search.specs.Stream.{error_of, exchanged_to, FailsToReplace, IsAllSettled, IsSettled, IsStreamRefused, stream_result, text_of}
 use Rattle.ac_search.specs.Streams.{Streaming}
 use Rattle.ac_search.specs.Searchers.{HasBegun}
 use Rattle.acs.specs.declared.fault.Fault.{Fault}
@@ -68,12 +67,12 @@ module _ (built : Built) (texts : List (List ℕ)) (ends : Bool) (reader new_rea
   refused-first mode unchanged StreamTooLong fault is same refusal = absurd refusal
 
   -- where streams settle alike, lines ask for no texts, and for no start
-  module _ (alike : (kind : MatchKind) (over : Built) (start : StartKind) (bytes : List ℕ) (given place : ℕ)
-      → IsSettledBy kind (record over { start_kind = start }) bytes given place → IsSettledBy kind over bytes given place) where
+  module _ (alike : (over : Built) (start : StartKind) (bytes : List ℕ) (given place : ℕ)
+      → IsAllSettled (record over { start_kind = start }) bytes given place → IsAllSettled over bytes given place) where
     lines-settled : (begun : StartKind) (bytes : List ℕ)
         → WritesSettled Stream (record built { start_kind = begun }) [] bytes writer new_writer
         → WritesSettled Stream built texts bytes writer new_writer
-    lines-settled begun bytes h = (h.0, h.1, alike built.kind built begun bytes h.0 h.1 h.2, h.3, h.4)
+    lines-settled begun bytes h = (h.0, h.1, alike built begun bytes h.0 h.1 h.2, h.3)
 
     -- the lines of a stream were printed, or a read or a write has failed
     pub stream-printed : (begun : Streaming) (r : Result Outcome Fault) → stream_refusal built ≡ None → HasBegun built begun

@@ -9,7 +9,7 @@ use Rattle.ac_search.specs.Built.{Built}
 use Rattle.ac_search.specs.Device.{Reading, ReadsAll, ReadsSome, Writing, WritesAll}
 use Rattle.ac_search.specs.Occurrence.{Occurrence}
 use Rattle.ac_search.specs.Patterns.{usize_max}
-use Rattle.ac_search.specs.Stream.{stream_result, IsNear, IsSettledBy}
+use Rattle.ac_search.specs.Stream.{stream_result, IsAllSettled}
 use Rattle.ac_search.specs.declared.Phase.{Phase}
 use Rattle.ac_search.specs.declared.Phase.TheVariants.{Ended, Failed, Open}
 use Rattle.ac_search.specs.Streams.{EndsNow, GivesError, GivesMatch, GivesNextMatch, GivesNone, GoesOnBy, HasGivenSettled, KeepsGiven, Streaming, matches_so_far, initial_stream}
@@ -82,9 +82,9 @@ module _ {ends : Bool} {built : Built} {v : Streaming} {reader new_reader : Read
   all-written bytes keeps all = grind (arith, common_steps)
 
   -- what is settled is written
-  settled-written : (bytes : List ℕ) (place : ℕ) → KeepsGiven v bytes → IsNear built bytes place
-      → IsSettledBy built.kind built bytes v.given place → WritesSettled Stream built [] bytes writer new_writer
-  settled-written bytes place keeps near settled = grind (arith, common_steps)
+  settled-written : (bytes : List ℕ) (place : ℕ) → KeepsGiven v bytes
+      → IsAllSettled built bytes v.given place → WritesSettled Stream built [] bytes writer new_writer
+  settled-written bytes place keeps all = grind (arith, common_steps)
 
   -- a read has failed, or brought more than usize counts
   pub read-stops : {later : Reading} {e : StreamError} {w : Streaming} {fault : Fault}
@@ -92,9 +92,6 @@ module _ {ends : Bool} {built : Built} {v : Streaming} {reader new_reader : Read
       → FailsToPrintStream ends built reader later writer new_writer fault
   read-stops {later} {e} {w} gives is =
       let bytes = v.bytes ++ gives.more in
-      let long : length w.bytes ≡ length bytes = ap (λ (u : Streaming). length u.bytes) gives.same in
-      let few = gives.few in
-      let near : IsNear v.built bytes w.kept = omega arith in
       let read = subst (λ (p : Phase). GoesOnBy ends Open p reader new_reader v.bytes) gives.open' h.reads in
       record {
         bytes = bytes;
@@ -102,8 +99,7 @@ module _ {ends : Bool} {built : Built} {v : Streaming} {reader new_reader : Read
           e,
           is,
           fails-after later gives.more read e gives.reads,
-          settled-written bytes w.kept gives.given (subst (λ (b : Built). IsNear b bytes w.kept) h.built_is near)
-              (subst (λ (b : Built). IsSettledBy b.kind b bytes v.given w.kept) h.built_is gives.settled),
+          settled-written bytes w.kept gives.given (subst (λ (b : Built). IsAllSettled b bytes v.given w.kept) h.built_is gives.all),
         );
       }
 

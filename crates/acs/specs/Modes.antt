@@ -8,7 +8,7 @@ use Rattle.ac_search.specs.Input.{whole_input}
 use Rattle.ac_search.specs.Built.{Built, overlapping_iter_refusal, stream_refusal}
 use Rattle.ac_search.specs.Device.{Reading, ReadsAll, ReadsSome, Writing, WritesAll, WritesSome}
 use Rattle.ac_search.specs.Replacement.{replaced}
-use Rattle.ac_search.specs.Stream.{stream_result, FailsToRead, IsNear, IsSettledBy}
+use Rattle.ac_search.specs.Stream.{stream_result, FailsToRead, IsAllSettled}
 use Rattle.acs.specs.declared.fault.Fault.{Fault}
 use Rattle.acs.specs.declared.fault.Fault.TheVariants.{Io, Memory, WriteZero}
 use Rattle.acs.specs.declared.request.Mode.{Mode}
@@ -76,7 +76,7 @@ text_as_far mode built texts bytes given place = lines (take given (stream_resul
 -- what is settled at a read was written
 abbrev pub WritesSettled : Mode → Built → List (List ℕ) → List ℕ → Writing → Writing → Type 0
 WritesSettled mode built texts bytes old new =
-    (given place : ℕ) × IsSettledBy built.kind built bytes given place × IsNear built bytes place
+    (given place : ℕ) × IsAllSettled built bytes given place
     × WritesAll old new (text_as_far mode built texts bytes given place)
 
 module _ (ends : Bool) (mode : Mode) (built : Built) (texts : List (List ℕ)) (reader new_reader : Reading)

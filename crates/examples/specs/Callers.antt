@@ -12,6 +12,10 @@ use Rattle.ac_search.specs.declared.MatchKind.TheVariants.{LeftmostLongest}
 use Rattle.ac_search.specs.declared.StartKind.TheVariants.{Unanchored}
 use Rattle.ac_search.specs.Alike.{WritesExchanged}
 
+-- the text is some bytes, then the word, and then some more
+abbrev pub HasWord : List ℕ → List ℕ → Type 0
+HasWord word text = (before after : List ℕ) × (text ≡ before ++ (word ++ after))
+
 -- as many stars
 abbrev pub stars : ℕ → List ℕ
 stars n = replicate n 42

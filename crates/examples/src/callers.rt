@@ -1,6 +1,8 @@
 //! Short callers, each proved to keep one fact of its own.
 mod built;
 mod closures;
+mod contains;
+mod copier;
 mod ends;
 mod labels;
 mod line_numbers;

@@ -5,7 +5,7 @@ ghost use Rattle.ac_automaton.specs.Answers.{BeginsStream};
 ghost use Rattle.ac_automaton.specs.Automata.{IsLiveState, IsState};
 ghost use Rattle.ac_automaton.specs.Commits.{AreCommits, reads_on};
 ghost use Rattle.ac_automaton.specs.declared.automaton.stream_settled.Phase.TheVariants.{Ended, Failed, Open};
-ghost use Rattle.ac_automaton.specs.Streams.{Fills, HasGivenSettled, GivesRead, GivesSettled, ReadsThrough, Streams, kept_len, initial_stream, on, HasGivenLast, GivesMatch};
+ghost use Rattle.ac_automaton.specs.Streams.{Fills, GivesRead, IsAllGiven, GivesSettled, ReadsThrough, Streams, kept_len, initial_stream, on, HasGivenLast, GivesMatch};
 
 use super::Automaton;
 use super::onward::{ChainRest, Core, Given, byte_of, chain_rest, match_ending, take_next};
@@ -13,7 +13,7 @@ use super::scan::Cursor;
 use super::stream_settled::{Phase, buffer_len, most_kept, settled_from};
 use ac_util::device::Source;
 use ac_util::error::{MatchError, StreamError};
-use ac_util::history::History;
+use ac_util::history::{History, Remembered};
 use ac_util::looks::open;
 use ac_util::primitives::StateID;
 use ac_util::search::{Anchored, Input, Match, MatchKind};
@@ -21,7 +21,6 @@ use ac_util::tally::Tally;
 use std::alloc::Allocator;
 use std::io;
 use std::marker::Model;
-use std::snapshot::Snapshot;
 
 /// A search of a stream whose reader is handed to each call. `StreamFindIter` has its own reader.
 ///
@@ -55,7 +54,7 @@ pub struct StreamFinder<'a, A: Automaton, Z: Allocator> {
     rest: Option<ChainRest>,
     phase: Phase,
     /// Where in the stream the last match given ended.
-    begun: Snapshot<usize>,
+    begun: Remembered<usize>,
     given: Tally,
     history: History,
 }
@@ -120,7 +119,7 @@ impl<'a, A: Automaton, Z: Allocator> StreamFinder<'a, A, Z> {
             at: 0,
             rest: None,
             phase: Phase::Open,
-            begun: Snapshot::of(&0),
+            begun: Remembered::of(&0),
             given: Tally::zero(),
             history: History::empty(),
         })
@@ -175,7 +174,7 @@ impl<'a, A: Automaton, Z: Allocator> StreamFinder<'a, A, Z> {
         }
         let chains = self.core.commits.chains();
         if let Some(found) = take_next(self.core.automaton, chains, &mut self.rest) {
-            self.begun = Snapshot::of(&found.end());
+            self.begun = Remembered::of(&found.end());
             self.given = Tally::after(&self.given);
             self.kept = found.end();
             return Some(found);
@@ -197,7 +196,7 @@ impl<'a, A: Automaton, Z: Allocator> StreamFinder<'a, A, Z> {
         let end = read - given.rest;
         self.state = given.next;
         self.rest = chain_rest(given.chain, end);
-        self.begun = Snapshot::of(&end);
+        self.begun = Remembered::of(&end);
         self.given = Tally::after(&self.given);
         self.kept = end;
         Some(match_ending(self.core.automaton, given.pattern, end))
@@ -210,7 +209,7 @@ impl<'a, A: Automaton, Z: Allocator> StreamFinder<'a, A, Z> {
     /// `Io` where the read failed, and `TooLong` where more bytes have come than a `usize` counts: its bytes aren't searched.
     pub(super) fn fill<R: Source>(&mut self, reader: &mut R) -> Result<bool, StreamError>
         requires goes_on { self.old.phase ≡ Open }
-        requires settled { HasGivenSettled self.old self.old }
+        requires settled { IsAllGiven self.old }
         ensures { Fills R.empty_means_end (on R.told self.old reader.old) result (on R.told self.new reader.new) }
     {
         self.make_room();
@@ -263,7 +262,7 @@ impl<'a, A: Automaton, Z: Allocator> StreamFinder<'a, A, Z> {
     /// Closes the stream: nothing is read any more. Of its bytes those that are kept are left in the buffer, and no others.
     fn close(&mut self, phase: Phase)
         requires goes_on { self.old.phase ≡ Open }
-        requires settled { HasGivenSettled self.old self.old }
+        requires settled { IsAllGiven self.old }
         requires closed { phase ≢ Open }
         ensures { self.new ≡ record self.old { front = self.old.kept; phase = phase } }
     {

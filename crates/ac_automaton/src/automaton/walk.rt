@@ -10,10 +10,10 @@ use super::find::Finder;
 use super::onward::Onward;
 use super::replace::Walk;
 use ac_util::error::MatchError;
+use ac_util::history::Remembered;
 use ac_util::looks::{Looks, Tape, open};
 use ac_util::search::{Input, Match, Span};
 use std::marker::Model;
-use std::snapshot::Snapshot;
 
 /// An iterator over the matches of an input that don't overlap, made by `Automaton::try_find_iter`.
 ///
@@ -37,7 +37,7 @@ pub struct FindIter<'a, 'h, A: Automaton> {
     /// Where the match before this ended.
     last: Option<usize>,
     /// Where the span began.
-    from: Snapshot<usize>,
+    from: Remembered<usize>,
 }
 
 impl<'a, 'h, A: Automaton> Model for FindIter<'a, 'h, A> {
@@ -79,7 +79,7 @@ impl<'a, 'h, A: Automaton> FindIter<'a, 'h, A> {
             onward,
             span,
             last: None,
-            from: Snapshot::of(&span.start),
+            from: Remembered::of(&span.start),
         })
     }
 

@@ -1,6 +1,5 @@
 //! A reader and a writer over slices, which do little at once and fail, and how streams end over them.
-use crate::{MatchError, Sink, Source, StreamError};
-use ac_util::tally::Tally;
+use crate::{MatchError, Misses, Sink, Source, StreamError};
 use std::io;
 use std::io::{ErrorKind, Write};
 use std::marker::Model;
@@ -21,8 +20,7 @@ pub(super) struct Pieces<'a> {
     most: usize,
     good: usize,
     stop: Option<ErrorKind>,
-    failed: Tally,
-    empties: Tally,
+    misses: Misses,
 }
 
 impl<'a> Model for Pieces<'a> {
@@ -31,7 +29,7 @@ impl<'a> Model for Pieces<'a> {
 
     ghost Value = { Reading };
 
-    ghost view = { λ p. record { left = None; failed = p.failed.number; empties = p.empties.number } };
+    ghost view = { λ p. record { left = None; failed = p.misses.failed; error = p.misses.error; empties = p.misses.idles } };
 }
 
 impl<'a> Pieces<'a> {
@@ -52,8 +50,7 @@ impl<'a> Pieces<'a> {
             most,
             good,
             stop,
-            failed: Tally::zero(),
-            empties: Tally::zero(),
+            misses: Misses::none(),
         }
     }
 }
@@ -69,16 +66,13 @@ impl<'a> Source for Pieces<'a> {
         let stops = self.good == 0;
         self.good = if stops { ALWAYS } else { self.good - 1 };
         if let (true, Some(kind)) = (stops, self.stop) {
-            self.failed = Tally::after(&self.failed);
-            return Err(io::Error::from(kind));
+            return Err(self.misses.fail(io::Error::from(kind)));
         }
         let most = if stops { 0 } else { self.most };
         let left = self.left;
         let n = most.min(left.len()).min(into.len());
         into[..n].copy_from_slice(&left[..n]);
-        if n == 0 && !into.is_empty() {
-            self.empties = Tally::after(&self.empties);
-        }
+        self.misses.record(n);
         self.left = &left[n..];
         Ok(n)
     }
@@ -90,8 +84,7 @@ pub(super) struct Few<'a> {
     pub(super) room: &'a mut [u8],
     most: usize,
     fails: bool,
-    failed: Tally,
-    idles: Tally,
+    misses: Misses,
 }
 
 impl<'a> Model for Few<'a> {
@@ -100,7 +93,7 @@ impl<'a> Model for Few<'a> {
 
     ghost Value = { Writing };
 
-    ghost view = { λ w. record { written = None; failed = w.failed.number; idles = w.idles.number } };
+    ghost view = { λ w. record { written = None; failed = w.misses.failed; error = w.misses.error; idles = w.misses.idles } };
 }
 
 impl<'a> Few<'a> {
@@ -109,8 +102,7 @@ impl<'a> Few<'a> {
             room,
             most,
             fails,
-            failed: Tally::zero(),
-            idles: Tally::zero(),
+            misses: Misses::none(),
         }
     }
 }
@@ -122,12 +114,9 @@ impl<'a> Sink for Few<'a> {
         let n = self.most.min(piece.len());
         let n = self.room.write(&piece[..n])?;
         if n == 0 && self.fails {
-            self.failed = Tally::after(&self.failed);
-            return Err(io::Error::from(WRITE));
+            return Err(self.misses.fail(io::Error::from(WRITE)));
         }
-        if n == 0 && !piece.is_empty() {
-            self.idles = Tally::after(&self.idles);
-        }
+        self.misses.record(n);
         Ok(n)
     }
 }

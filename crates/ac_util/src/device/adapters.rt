@@ -1,12 +1,12 @@
 //! Readers made of any `Read`, and writers made of any `Write`.
-ghost use Rattle.std.specs.Prelude.{◌≡◌, true};
+ghost use Rattle.std.specs.Prelude.{◌≡◌, true, None};
 
 use super::misses::Misses;
 use super::{Sink, Source};
+use crate::history::Remembered;
 use std::io;
 use std::io::{Read, Write};
 use std::marker::Model;
-use std::snapshot::Snapshot;
 
 /// A reader that reads from any `Read`. Contracts see the bytes that are left where the `Read` reports them.
 ///
@@ -16,7 +16,7 @@ pub struct FromRead<R: Read + Drop> {
     inner: R,
     // The reader as it was after the last read that succeeded. A failed read changes none of the bytes that it
     // reports.
-    known: Snapshot<R>,
+    known: Remembered<R>,
     misses: Misses,
 }
 
@@ -26,7 +26,7 @@ impl<R: Read + Drop> Model for FromRead<R> {
 
     ghost Value = { Reading };
 
-    ghost view = { λ b. record { left = R.remaining b.known.value; failed = b.misses.failed.number; empties = b.misses.idles.number } };
+    ghost view = { λ b. record { left = R.remaining b.known.value; failed = b.misses.failed; error = b.misses.error; empties = b.misses.idles } };
 
     ghost invariant = { λ b. Keeps (R.remaining b.known.value) (R.remaining b.inner) };
 }
@@ -34,9 +34,9 @@ impl<R: Read + Drop> Model for FromRead<R> {
 impl<R: Read + Drop> FromRead<R> {
     /// Returns a reader over `inner`.
     pub fn new(inner: R) -> FromRead<R>
-        ensures { result ≡ record { left = R.remaining inner; failed = 0; empties = 0 } }
+        ensures { result ≡ record { left = R.remaining inner; failed = 0; error = None; empties = 0 } }
     {
-        let known = Snapshot::of(&inner);
+        let known = Remembered::of(&inner);
         FromRead {
             inner,
             known,
@@ -54,14 +54,11 @@ impl<R: Read + Drop> Source for FromRead<R> {
     fn read_some(&mut self, into: &mut [u8]) -> io::Result<usize> {
         match self.inner.read(into) {
             Ok(n) => {
-                self.known = Snapshot::of(&self.inner);
-                self.misses.record(n, into.len());
+                self.known = Remembered::of(&self.inner);
+                self.misses.record(n);
                 Ok(n)
             }
-            Err(e) => {
-                self.misses.fail();
-                Err(e)
-            }
+            Err(e) => Err(self.misses.fail(e)),
         }
     }
 }
@@ -74,7 +71,7 @@ pub struct IntoWrite<W: Write + Drop> {
     inner: W,
     // The writer as it was after the last write that succeeded. A failed write changes none of the bytes that
     // it reports.
-    known: Snapshot<W>,
+    known: Remembered<W>,
     misses: Misses,
 }
 
@@ -84,7 +81,7 @@ impl<W: Write + Drop> Model for IntoWrite<W> {
 
     ghost Value = { Writing };
 
-    ghost view = { λ w. record { written = W.contents w.known.value; failed = w.misses.failed.number; idles = w.misses.idles.number } };
+    ghost view = { λ w. record { written = W.contents w.known.value; failed = w.misses.failed; error = w.misses.error; idles = w.misses.idles } };
 
     ghost invariant = { λ w. Keeps (W.contents w.known.value) (W.contents w.inner) };
 }
@@ -92,9 +89,9 @@ impl<W: Write + Drop> Model for IntoWrite<W> {
 impl<W: Write + Drop> IntoWrite<W> {
     /// Returns a writer over `inner`.
     pub fn new(inner: W) -> IntoWrite<W>
-        ensures { result ≡ record { written = W.contents inner; failed = 0; idles = 0 } }
+        ensures { result ≡ record { written = W.contents inner; failed = 0; error = None; idles = 0 } }
     {
-        let known = Snapshot::of(&inner);
+        let known = Remembered::of(&inner);
         IntoWrite {
             inner,
             known,
@@ -109,14 +106,11 @@ impl<W: Write + Drop> Sink for IntoWrite<W> {
     fn write_some(&mut self, piece: &[u8]) -> io::Result<usize> {
         match self.inner.write(piece) {
             Ok(n) => {
-                self.known = Snapshot::of(&self.inner);
-                self.misses.record(n, piece.len());
+                self.known = Remembered::of(&self.inner);
+                self.misses.record(n);
                 Ok(n)
             }
-            Err(e) => {
-                self.misses.fail();
-                Err(e)
-            }
+            Err(e) => Err(self.misses.fail(e)),
         }
     }
 }

@@ -1,5 +1,5 @@
 //! A reader and a writer of bytes in memory.
-ghost use Rattle.std.specs.Prelude.{◌≡◌, true, [], Some, IfErr, IfOk, length, IfSome, Ok, min};
+ghost use Rattle.std.specs.Prelude.{◌≡◌, true, [], None, Some, IfErr, IfOk, length, IfSome, Ok, min};
 ghost use Rattle.std.specs.IoError.{error_kind};
 ghost use Rattle.std.specs.declared.io.ErrorKind.TheVariants.{OutOfMemory};
 ghost use Rattle.ac_util.specs.Device.{Reads, Writes};
@@ -24,13 +24,13 @@ impl<'a> Model for Bytes<'a> {
 
     ghost Value = { Reading };
 
-    ghost view = { λ b. record { left = Some b.left.now; failed = b.misses.failed.number; empties = b.misses.idles.number } };
+    ghost view = { λ b. record { left = Some b.left.now; failed = b.misses.failed; error = b.misses.error; empties = b.misses.idles } };
 }
 
 impl<'a> Bytes<'a> {
     /// Returns a reader of these bytes.
     pub fn new(bytes: &'a [u8]) -> Bytes<'a>
-        ensures { result ≡ record { left = Some bytes.now; failed = 0; empties = 0 } }
+        ensures { result ≡ record { left = Some bytes.now; failed = 0; error = None; empties = 0 } }
     {
         Bytes {
             left: bytes,
@@ -50,7 +50,7 @@ impl<'a> Source for Bytes<'a> {
         ensures full { IfSome self.old.left (λ bytes. result ≡ Ok (min (length bytes) (length into.old))) }
     {
         let n = self.left.read(into)?;
-        self.misses.record(n, into.len());
+        self.misses.record(n);
         Ok(n)
     }
 }
@@ -68,13 +68,13 @@ impl<A: Allocator> Model for Written<A> {
 
     ghost Value = { Writing };
 
-    ghost view = { λ w. record { written = Some w.bytes.items; failed = w.misses.failed.number; idles = w.misses.idles.number } };
+    ghost view = { λ w. record { written = Some w.bytes.items; failed = w.misses.failed; error = w.misses.error; idles = w.misses.idles } };
 }
 
 impl<A: Allocator> Written<A> {
     /// Returns a writer that holds nothing yet. It takes no memory.
     pub fn new(alloc: A) -> Written<A>
-        ensures { result ≡ record { written = Some []; failed = 0; idles = 0 } }
+        ensures { result ≡ record { written = Some []; failed = 0; error = None; idles = 0 } }
     {
         Written {
             bytes: Vec::new(alloc),
@@ -100,11 +100,11 @@ impl<A: Allocator> Sink for Written<A> {
         ensures refused { IfErr result (λ e. error_kind e ≡ OutOfMemory) }
     {
         match self.bytes.extend_from_slice(piece) {
-            Ok(()) => Ok(piece.len()),
-            Err(e) => {
-                self.misses.fail();
-                Err(e.into())
+            Ok(()) => {
+                self.misses.record(piece.len());
+                Ok(piece.len())
             }
+            Err(e) => Err(self.misses.fail(e.into())),
         }
     }
 }

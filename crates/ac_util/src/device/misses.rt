@@ -1,42 +1,59 @@
-//! What the readers and writers here count of their calls.
-ghost use Rattle.std.specs.Prelude.{◌≡◌, ◌+◌};
+//! What readers and writers note of their calls.
+ghost use Rattle.std.specs.Prelude.{◌≡◌, ◌+◌, None, Some};
 ghost use Rattle.ac_util.specs.Device.{idle};
 
+use crate::history::Remembered;
 use crate::tally::Tally;
+use std::io;
+use std::marker::Model;
 
-/// How often a call failed, and how often one moved no byte though there was room.
+/// How often a call failed, the error of the last one that did, and how often one moved no byte: what contracts see of a
+/// reader or a writer beside its bytes.
+///
+/// A `Source` or a `Sink` of your own keeps one, and tells it of each call. At run time it takes no memory and no work.
 #[derive(Drop)]
-pub(super) struct Misses {
-    pub(super) failed: Tally,
-    pub(super) idles: Tally,
+pub struct Misses {
+    failed: Tally,
+    error: Remembered<Option<io::Error>>,
+    idles: Tally,
+}
+
+impl Model for Misses {
+    ghost use Rattle.ac_util.specs.Device.{Missed};
+
+    ghost Value = { Missed };
+
+    ghost view = { λ m. record { failed = m.failed.number; error = m.error.value; idles = m.idles.number } };
 }
 
 impl Misses {
-    /// Returns counts of 0.
-    pub(super) fn none() -> Misses
-        ensures failed { result.failed.number ≡ 0 }
-        ensures idles { result.idles.number ≡ 0 }
+    /// Returns what is noted before the first call.
+    pub fn none() -> Misses
+        ensures { result ≡ record { failed = 0; error = None; idles = 0 } }
     {
         Misses {
             failed: Tally::zero(),
+            error: Remembered::of(&None),
             idles: Tally::zero(),
         }
     }
 
-    /// Counts a call that failed.
-    pub(super) fn fail(&mut self)
-        ensures failed { self.new.failed.number ≡ self.old.failed.number + 1 }
-        ensures idles { self.new.idles.number ≡ self.old.idles.number }
+    /// Counts a call that failed with this error, and returns the error.
+    pub fn fail(&mut self, error: io::Error) -> io::Error
+        ensures gives { result ≡ error }
+        ensures failed { self.new ≡ record self.old { failed = self.old.failed + 1; error = Some error } }
     {
         self.failed = Tally::after(&self.failed);
+        let error = Some(error);
+        self.error = Remembered::of(&error);
+        error.unwrap()
     }
 
-    /// Counts a call that moved so many bytes where there was room for so many.
-    pub(super) fn record(&mut self, moved: usize, room: usize)
-        ensures failed { self.new.failed.number ≡ self.old.failed.number }
-        ensures idles { self.new.idles.number ≡ self.old.idles.number + idle moved room }
+    /// Counts a call that moved so many bytes, if these are none.
+    pub fn record(&mut self, moved: usize)
+        ensures { self.new ≡ record self.old { idles = self.old.idles + idle moved } }
     {
-        if moved == 0 && room > 0 {
+        if moved == 0 {
             self.idles = Tally::after(&self.idles);
         }
     }

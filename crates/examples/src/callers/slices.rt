@@ -1,10 +1,10 @@
 //! Callers that slice a haystack at matches, or take a list at their patterns.
-ghost use Rattle.std.specs.Prelude.{◌≡◌, None, length};
+ghost use Rattle.std.specs.Prelude.{◌≡◌, Contains, IfSome, None, false, length};
 ghost use Rattle.ac_search.specs.Built.{find_refusal, walk_result};
 ghost use Rattle.ac_search.specs.Input.{whole_input};
 
 use crate::checks::same;
-use ac_search::laws::answers_lie_inside;
+use ac_search::laws::{answers_are_their_patterns, answers_lie_inside};
 use ac_search::{AhoCorasick, Input};
 use std::alloc::{AllocError, Global};
 use std::test::Fail;
@@ -14,6 +14,18 @@ fn first_slice<'t>(searcher: &AhoCorasick, haystack: &'t [u8]) -> Option<&'t [u8
     requires { find_refusal searcher.now.built (whole_input haystack.now) ≡ None }
 {
     answers_lie_inside(searcher, Input::new(haystack));
+    let m = searcher.find(Input::new(haystack))?;
+    Some(&haystack[m.range()])
+}
+
+/// Returns the slice at which the first match stands, where case counts: it is a pattern.
+fn first_pattern<'t>(searcher: &AhoCorasick, haystack: &'t [u8]) -> Option<&'t [u8]>
+    requires supported { find_refusal searcher.now.built (whole_input haystack.now) ≡ None }
+    requires case { searcher.now.built.ignores_case ≡ false }
+    ensures { IfSome result (λ slice. Contains searcher.now.built.patterns slice.now) }
+{
+    answers_lie_inside(searcher, Input::new(haystack));
+    answers_are_their_patterns(searcher, Input::new(haystack));
     let m = searcher.find(Input::new(haystack))?;
     Some(&haystack[m.range()])
 }
@@ -62,6 +74,11 @@ fn matches_can_be_used_as_indices(rt: HostRuntime) -> Result<(), Fail> {
     same(
         &rt,
         first_slice(&searcher, haystack),
+        Some(b"maple".as_slice()),
+    );
+    same(
+        &rt,
+        first_pattern(&searcher, haystack),
         Some(b"maple".as_slice()),
     );
     Ok(())

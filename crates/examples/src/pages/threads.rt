@@ -5,11 +5,13 @@ use ac_search::nfa::{contiguous, noncontiguous};
 use ac_search::plain::Query;
 use ac_search::{
     AhoCorasick, AhoCorasickBuilder, AhoCorasickKind, Anchored, BuildError, ByteClasses, Bytes,
-    Candidate, Finder, FirstBytes, Input, Looks, Match, MatchError, MatchKind, MatchRest, Needle,
-    OverlappingState, PatternID, Patterns, Phase, Prefilter, ReplaceError, Span, StartKind,
-    StateID, StreamError, Tally, Tape, TooLarge, WriteError, Written, dfa,
+    Candidate, FindIter, FindOverlappingIter, Finder, FirstBytes, FromRead, Input, IntoWrite,
+    Looks, Match, MatchError, MatchKind, MatchRest, Needle, OverlappingState, PatternID, Patterns,
+    Phase, Prefilter, ReplaceError, Span, StartKind, StateID, StreamError, StreamFindIter,
+    StreamFinder, Tally, Tape, TooLarge, WriteError, Written, dfa,
 };
 use std::alloc::{Allocator, Global};
+use std::io::{Read, Write};
 
 /// Asks of a type that threads may share its values and pass them on.
 fn crosses<T: Send + Sync>() {}
@@ -41,6 +43,18 @@ fn finds_of_engines_cross_threads() {
     crosses::<Finder<'_, contiguous::NFA>>();
     crosses::<Finder<'_, dfa::DFA>>();
     crosses::<MatchRest>();
+}
+
+#[test]
+fn walks_and_listings_cross_threads() {
+    crosses::<FindIter<'_, '_>>();
+    crosses::<FindOverlappingIter<'_, '_>>();
+}
+
+#[test]
+fn streams_cross_threads() {
+    crosses::<StreamFinder<'_>>();
+    crosses::<StreamFindIter<'_, Bytes<'_>>>();
 }
 
 #[test]
@@ -92,4 +106,10 @@ fn searchers_cross_with<A: Allocator + Send + Sync>() {
     crosses::<noncontiguous::NFA<A>>();
     crosses::<contiguous::NFA<A>>();
     crosses::<dfa::DFA<A>>();
+}
+
+/// Readers and writers cross threads wherever what they read from and write to does.
+fn devices_cross_with<R: Read + Drop + Send + Sync, W: Write + Drop + Send + Sync>() {
+    crosses::<FromRead<R>>();
+    crosses::<IntoWrite<W>>();
 }

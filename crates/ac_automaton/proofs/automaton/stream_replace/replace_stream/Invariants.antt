@@ -1,5 +1,5 @@
-use Rattle.ac_util.proofs.Prelude.{◌-◌, ◌≤◌, length}
-use Rattle.ac_automaton.specs.Prelude.{IsNear, Occurrence, usize_max, IsSettledIn}
+use Rattle.ac_util.proofs.Prelude.{◌-◌, length}
+use Rattle.ac_automaton.specs.Prelude.{IsAllGiven, Occurrence, usize_max}
 use Rattle.ac_automaton.proofs.StreamReplaced.{IsReplacing}
 use Rattle.ac_automaton.proofs.automaton.stream_replace.replace_stream.Given as goal
 
@@ -11,9 +11,7 @@ invariant-loop-finder g l =
       on : IsReplacing E.passing E.calls R.empty_means_end l.fn.finder.built (R.told l.fn.reader)
           (record { closure = l.fn.exchange; destination = l.fn.writer }) (R.told l.reader) l.finder
           (record { closure = l.exchange; destination = l.writer });
-      settled : IsSettledIn l.finder.phase l.finder.built l.finder.bytes l.finder.given l.finder.kept;
-      near : IsNear l.finder.built l.finder.bytes l.finder.kept;
-      within : l.finder.kept ≤ length l.finder.bytes;
+      all : IsAllGiven l.finder;
     }
 
 abbrev pub decreases-loop-finder : goal.decreases-loop-finder

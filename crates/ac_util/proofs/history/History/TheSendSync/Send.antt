@@ -1,6 +1,6 @@
 -- A history owns nothing, so it may be sent to another thread.
 use denote.Param.Send.{IsSend, owning_send, sendable}
-use Rattle.ac_util.specs.Prelude.{the_row, the_type}
+use Rattle.ac_util.specs.contracts.history.History.{the_row, the_type}
 
 pub send : IsSend the_row
 send = owning_send the_type (search sendable, tt) (λ d. tt) (λ k x w. tt)

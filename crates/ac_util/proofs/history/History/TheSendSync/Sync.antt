@@ -1,7 +1,7 @@
 -- A history owns nothing, so it may be shared with another thread.
 use denote.Param.Send.{IsSync, cell_keyless}
 use denote.Memory.{part_of, raw_all}
-use Rattle.ac_util.specs.Prelude.{the_row}
+use Rattle.ac_util.specs.contracts.history.History.{the_row}
 
 pub sync : IsSync the_row
 unfolding part_of

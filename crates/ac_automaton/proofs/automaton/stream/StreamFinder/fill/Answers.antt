@@ -1,5 +1,5 @@
 use Rattle.ac_util.proofs.Prelude.{◌≡◌, ◌∙◌, ◌+◌, ◌-◌, ◌≤◌, ◌≢◌, ◌++◌, ℕ, List, length, length-append, length-drop, take, drop, sym, ap, subst, arith, length-take-le}
-use Rattle.ac_automaton.specs.Prelude.{stream_result, Streaming, matches_so_far, Failed, Open}
+use Rattle.ac_automaton.specs.Prelude.{buffer_len, stream_result, Streaming, matches_so_far, Failed, Open}
 use Rattle.ac_util.proofs.Devices.{not-idle}
 use Rattle.ac_automaton.proofs.Places.{written-whole}
 use Rattle.ac_automaton.proofs.StreamFilling.{closed-as, filled-as, given-stays, streams-filled}
@@ -66,12 +66,12 @@ returns-in-Ok g c =
       more = more;
       some = omega arith;
       room = (let w = took.within in let cut = length-drop at c.read_after.new.buffer in
-          let long = as_long g d in let is = ap (length {A = ℕ}) (whole g d) in
-          let size' = ap (λ (v : Streaming). v.buffer) e in omega arith);
+          let same = as_long g d in let is = ap (length {A = ℕ}) (whole g d) in
+          let size' = c.self.invariant.streams.long ∙ ap (λ (v : Streaming). buffer_len v.built.patterns) e in omega arith);
       reads = record {
         moved = took.moved;
         failed = took.failed;
-        empties = (let e = took.empties in let i = not-idle n (length into)
+        empties = (let e = took.empties in let i = not-idle n
             (λ e. absurd (omega (arith, c.in-Ok.n-test))) in omega arith);
       };
       same = filled-as c.args.self.now c.make_room.new.self _ c.self.view_is c.make_room.ensures.same _
@@ -103,7 +103,7 @@ returns-in-Ok-2 g c =
             let w = took.within in let d = length-drop at c.read_after.new.buffer in omega (arith, c.if-self-n.false));
         moved = took.moved;
         failed = took.failed;
-        empties = (let e = took.empties in let i = not-idle n (length into)
+        empties = (let e = took.empties in let i = not-idle n
             (λ e. absurd (omega (arith, c.in-Ok.n-test))) in omega arith);
       };
       same = closed-as c.args.self.now c.make_room.new.self _ c.self.view_is c.make_room.ensures.same _

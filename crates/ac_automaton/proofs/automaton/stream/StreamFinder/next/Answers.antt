@@ -1,7 +1,7 @@
-use Rattle.ac_util.proofs.Prelude.{Bool, MatchBool, length-append, subst, arith, rules, append-nil, common_steps}
+use Rattle.ac_util.proofs.Prelude.{Bool, MatchBool, ◌++◌, inr, length-append, subst, arith, rules, append-nil, common_steps}
 use Rattle.ac_automaton.specs.Prelude.{FillsMore, MeetsEnd}
-use Rattle.ac_util.proofs.Devices.{fails-on}
-use Rattle.ac_automaton.proofs.StreamEnds.{ended-then, gives-last}
+use Rattle.ac_util.proofs.Devices.{fails-on, reads-on}
+use Rattle.ac_automaton.proofs.StreamEnds.{ended-then, given-then, gives-last, needed-then, same-then, small-then}
 use Rattle.ac_automaton.proofs.StreamFilling.{failed-as}
 use Rattle.ac_automaton.proofs.automaton.stream.StreamFinder.next.Goals as goal
 
@@ -17,7 +17,22 @@ pub returns-in-Err : goal.returns-in-Err
 returns-in-Err g c = search (rules, failed-as, fails-on, length-append)
 
 pub loop-found-preserved : goal.loop-found-preserved
-loop-found-preserved g c = grind (arith, common_steps)
+loop-found-preserved g c =
+    let told = g.R.Source.told in let l = c.loop-found.invariant in
+    let fills = subst (λ (b : Bool). MatchBool b
+    (FillsMore c.next_read.new.self c.fill.new.self (told c.loop-found.reader) (told c.fill.new.reader))
+    (MeetsEnd g.R.Source.empty_means_end c.next_read.new.self c.fill.new.self (told c.loop-found.reader) (told c.fill.new.reader)))
+    c.in-Ok-true.field-0-test c.in-Ok-true.ensures in
+    let now = c.loop-found.self in let searched = c.next_read.new.self in
+    record {
+      more = l.more ++ fills.more;
+      reads = reads-on l.reads fills.reads;
+      goes_on = l.goes_on;
+      small = small-then c.args.self.now now searched l.more l.same c.in_default.ensures fills;
+      given = given-then c.args.self.now now searched l.more l.same c.in_default.ensures fills l.given;
+      needed = inr (needed-then c.args.self.now now searched l.more fills.more l.same l.goes_on c.in_default.ensures fills.room);
+      same = same-then c.args.self.now now searched l.more l.same c.in_default.ensures fills;
+    }
 
 pub loop-found-smaller : goal.loop-found-smaller
 loop-found-smaller g c = grind (arith, common_steps)

@@ -1,5 +1,5 @@
-use Rattle.ac_util.proofs.Prelude.{◌≡◌, ◌≤◌, ◌-◌, ◌++◌, ℕ, List, length}
-use Rattle.ac_automaton.specs.Prelude.{ReadsSome, KeepsGiven, Open, usize_max}
+use Rattle.ac_util.proofs.Prelude.{◌≡◌, ◌⊎◌, ◌≤◌, ◌-◌, ◌++◌, ℕ, List, length}
+use Rattle.ac_automaton.specs.Prelude.{IsSettledBefore, ReadsSome, KeepsGiven, Open, usize_max}
 use Rattle.ac_automaton.proofs.automaton.stream.StreamFinder.next.Given as goal
 
 -- so far some bytes were read, and no match was given
@@ -12,6 +12,9 @@ invariant-loop-found g l =
       goes_on : l.fn.self.phase ≡ Open;
       small : length (l.fn.self.bytes ++ more) ≤ usize_max;
       given : KeepsGiven l.fn.self (l.fn.self.bytes ++ more);
+      needed : (told l.reader ≡ told l.fn.reader)
+          ⊎ ((before : List ℕ) × (place : ℕ)
+          × IsSettledBefore l.fn.self.built (l.fn.self.bytes ++ more) before l.fn.self.given place);
       same : l.self ≡ record l.fn.self { bytes = l.fn.self.bytes ++ more; front = l.self.front; kept = l.self.kept };
     }
 

@@ -62,16 +62,16 @@ invariant_of-self g c =
     record {
       commits = c.self.invariant.commits;
       streams = streams-known (a g d) (inv g d) (unfailed g d) c.in-Some.found c.take_next.new.rest
-          (takes g (goal.at.invariant_of-self g c).In-Some) c.of.result.value c.end-self-inside.result
-          c.after-self-inside.result.number (c.of.ensures ∙ c.end.ensures) c.end-self-inside.ensures c.after-self-inside.ensures;
+          (takes g (goal.at.invariant_of-self g c).In-Some) c.of-self-inside.result.value c.end-self-inside.result
+          c.after-self-inside.result.number (c.of-self-inside.ensures ∙ c.end.ensures) c.end-self-inside.ensures c.after-self-inside.ensures;
     }
 
 pub returns-in-Some : goal.returns-in-Some
 returns-in-Some g c =
     let d = (goal.at.returns-in-Some g c).After-chains-chains in
     rw (← c.self.view_is) (gives-known (a g d) (inv g d) (unfailed g d) c.in-Some.found c.take_next.new.rest
-    (takes g (goal.at.returns-in-Some g c).In-Some) c.of.result.value c.end-self-inside.result c.after-self-inside.result.number
-    (c.of.ensures ∙ c.end.ensures) c.end-self-inside.ensures c.after-self-inside.ensures)
+    (takes g (goal.at.returns-in-Some g c).In-Some) c.of-self-inside.result.value c.end-self-inside.result c.after-self-inside.result.number
+    (c.of-self-inside.ensures ∙ c.end.ensures) c.end-self-inside.ensures c.after-self-inside.ensures)
 
 -- or none was left, and it has read on in the bytes that are filled
 module _ (g : Over) (c : After-read_through-byte g) where
@@ -125,8 +125,8 @@ invariant_of-self-2 g c =
     record {
       commits = c.self.invariant.commits;
       streams = streams-given c.self.invariant.streams (unfailed g d) (settles-now g at.In-Some-given_settled)
-          c.chain_rest-self-inside.result c.chain_rest-self-inside.ensures c.of-2.result.value c.after-self-inside-2.result.number
-          c.of-2.ensures c.after-self-inside-2.ensures;
+          c.chain_rest-self-inside.result c.chain_rest-self-inside.ensures c.of-self-inside-2.result.value c.after-self-inside-2.result.number
+          c.of-self-inside-2.ensures c.after-self-inside-2.ensures;
     }
 
 pub returns : goal.returns
