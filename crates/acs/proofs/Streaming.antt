@@ -1,27 +1,28 @@
 -- Printing the matches of a stream while it is read.
-use Rattle.std.proofs.Common.{◌≡◌, ◌⊎◌, ◌+◌, ◌<◌, ◌≤◌, ◌-◌, ℕ, List, [], ◌∷◌, ◌++◌, length, drop, take, ap, sym, ◌∙◌, subst, arith, inl, inr, Bool, Some, rules, slice_get}
+use Rattle.std.proofs.Common.{◌≡◌, ◌+◌, ◌<◌, ◌≤◌, ◌-◌, ℕ, List, [], ◌∷◌, ◌++◌, length, drop, take, ap, refl, sym, ◌∙◌, subst, arith, inl, inr, Bool, Some, rules, slice_get}
 use Rattle.std.proofs.KnownBytes.{Consumes-nil}
-use Rattle.std.proofs.lemmas.List.{drop_more}
+use Rattle.std.proofs.lemmas.List.{append_cancel_right, append-nil, drop_more, length-append, length-drop, take-append-drop}
 use Rattle.std.proofs.lemmas.Option.{get_or_from_slice_get, slice_get_within}
+use Rattle.std.proofs.Math.Seq.{take-append-add}
 use Rattle.std.proofs.lemmas.Grind.{common_steps}
 use Rattle.ac_search.specs.declared.StreamError.{StreamError}
 use Rattle.ac_search.specs.Built.{Built}
-use Rattle.ac_search.specs.Device.{Reading, ReadsAll, ReadsSome, Writing, WritesAll}
+use Rattle.ac_search.specs.Device.{Reading, Writing, WritesAll}
 use Rattle.ac_search.specs.Occurrence.{Occurrence}
 use Rattle.ac_search.specs.Patterns.{usize_max}
-use Rattle.ac_search.specs.Stream.{stream_result, IsAllSettled}
+use Rattle.ac_search.specs.Stream.{stream_result, IsAllSettled, IsSettled}
 use Rattle.ac_search.specs.declared.Phase.{Phase}
 use Rattle.ac_search.specs.declared.Phase.TheVariants.{Ended, Failed, Open}
-use Rattle.ac_search.specs.Streams.{EndsNow, GivesError, GivesMatch, GivesNextMatch, GivesNone, GoesOnBy, HasGivenSettled, KeepsGiven, Streaming, matches_so_far, initial_stream}
+use Rattle.ac_search.specs.Streams.{EndsNow, GivesError, GivesMatch, GivesNextMatch, GivesNone, GoesOnBy, HasGivenSettled, IsSettledIn, KeepsGiven, Streaming, matches_so_far, initial_stream}
 use Rattle.acs.specs.declared.fault.Fault.{Fault}
 use Rattle.acs.specs.declared.request.Mode.TheVariants.{Stream}
 use Rattle.acs.specs.declared.run.Outcome.{Outcome}
 use Rattle.acs.specs.declared.run.Outcome.TheVariants.{Found, Nothing}
 use Rattle.acs.specs.Faults.{stream_fault_of}
 use Rattle.acs.specs.Lines.{lines, outcome_of}
-use Rattle.acs.specs.Printed.{FailsToPrintStream, HasPrintedRead, IsPrinting, PrintsSoFar, PrintsStream}
-use Rattle.acs.specs.Modes.{FailsToPrint, WritesSettled}
-use Rattle.acs.proofs.Printing.{printing-begins, printing-writes}
+use Rattle.acs.specs.Printed.{FailsToPrintSettled, FailsToPrintStream, HasPrintedRead, IsPrinting, PrintsSoFar, PrintsStream}
+use Rattle.acs.specs.Modes.{FailsToPrint, FailsToWrite, WritesSettled}
+use Rattle.acs.proofs.Printing.{printing-begins, printing-fails, printing-writes}
 use Rattle.acs.proofs.Reading.{fails-after}
 
 -- what is left of a list from a place on begins with the element there
@@ -42,18 +43,90 @@ pub read-printing : {v w : Streaming} {m : Occurrence} {old new : Writing} {text
     → IsPrinting (matches_so_far w) (m ∷ drop w.given (matches_so_far w)) old new text outcome
 read-printing {v} {w} {m} {old} {new} {text} {outcome} gives h = search (rules, drop-slice_get)
 
+-- among more of the matches the next one is the first whose line isn't written
+pub printing-among : (n : ℕ) (all rest : List Occurrence) (m : Occurrence) {old new : Writing} {text : List ℕ} {outcome : Outcome}
+    → (h : IsPrinting all (m ∷ rest) old new text outcome) → length h.done < n
+    → IsPrinting (take n all) (m ∷ take (n - length h.done - 1) rest) old new text outcome
+printing-among n all rest m h more = record {
+  done = h.done;
+  parted =
+      sym (ap (take n) (sym h.parted)
+      ∙ ap (λ (k : ℕ). take k (h.done ++ m ∷ rest)) (let e : n ≡ length h.done + (n - length h.done - 1 + 1) = omega arith in e)
+      ∙ take-append-add h.done (m ∷ rest) (n - length h.done - 1 + 1) ∙ more-of);
+  out = h.out;
+  moved = h.moved;
+  written = h.written;
+  failed = h.failed;
+  idles = h.idles;
+  outcome_is = h.outcome_is;
+}
+  where
+    more-of : h.done ++ take (n - length h.done - 1 + 1) (m ∷ rest) ≡ h.done ++ m ∷ take (n - length h.done - 1) rest
+    more-of = grind (arith, common_steps)
+
+-- of those that were given none is left
+pub printing-given : (n : ℕ) (all : List Occurrence) {old new : Writing} {text : List ℕ} {outcome : Outcome}
+    → (h : IsPrinting all (drop n all) old new text outcome) → IsPrinting (take n all) [] old new text outcome
+printing-given n all h = record {
+  done = h.done;
+  parted = append-nil h.done ∙ append_cancel_right h.done (take n all) (drop n all) (h.parted ∙ sym (take-append-drop n all));
+  out = h.out;
+  moved = h.moved;
+  written = h.written;
+  failed = h.failed;
+  idles = h.idles;
+  outcome_is = h.outcome_is;
+}
+
+-- so many lines are written, or in the text, as matches were given
+given-many : {n : ℕ} {all rest : List Occurrence} {old new : Writing} {text : List ℕ} {outcome : Outcome}
+    → (h : IsPrinting all rest old new text outcome) → length rest + n ≡ length all → length h.done ≡ n
+given-many {n} {all} {rest} h is =
+    let parted = ap (length {A = Occurrence}) h.parted ∙ refl in let long = length-append h.done rest in omega arith
+
+-- the line of the next match couldn't be written: it is settled
+pub next-stops : {v w : Streaming} {m : Occurrence} {old now new : Writing} {text : List ℕ} {outcome : Outcome} {fault : Fault}
+    → GivesMatch v m w → PrintsSoFar v old now text outcome
+    → ((all rest : List Occurrence) (old : Writing) (before : Outcome) → IsPrinting all (m ∷ rest) old now text before
+    → FailsToPrint old new (lines all) fault)
+    → FailsToPrintSettled v old new fault
+next-stops {v} {w} {m} {old} {now} {new} {text} {outcome} {fault} gives h fails =
+    let ms = matches_so_far v in let settled = gives.settled in
+    let next = subst (λ (rest : List Occurrence). IsPrinting ms rest old now text outcome) (drop-slice_get ms v.given m gives.next) h in
+    let within = slice_get_within ms v.given m gives.next in
+    let among = settled.among in (
+      settled.given,
+      settled.place,
+      settled.settled,
+      fails (take settled.given ms) _ old outcome
+          (printing-among settled.given ms (drop (v.given + 1) ms) m next
+          (let many = given-many {n = v.given} next (let d = length-drop (v.given + 1) ms in omega arith) in omega arith)),
+    )
+
+-- the text couldn't be written: of all that are settled the lines are in it, or written
+pub text-stops : {v w : Streaming} {old now new : Writing} {text : List ℕ} {outcome : Outcome} {fault : Fault}
+    → HasGivenSettled v w → PrintsSoFar v old now text outcome → FailsToWrite now new text fault → FailsToPrintSettled v old new fault
+text-stops {v} {w} {old} {now} {new} {text} {outcome} {fault} all h fails = (
+  v.given,
+  w.kept,
+  all.all.settled,
+  printing-fails (take v.given (matches_so_far v)) [] old now text outcome
+      (printing-given v.given (matches_so_far v) h) new fault fails,
+)
+
 -- all of them that are settled were given, and the text is written
 pub read-printed : {v w first : Streaming} {old new later : Writing} {text left : List ℕ}
     → v ≡ record first { given = v.given; kept = v.kept } → first.given ≤ v.given → HasGivenSettled v w
     → PrintsSoFar v old new text Found → WritesAll new later text → left ≡ [] → HasPrintedRead first w old later left Found
 read-printed {v} {w} {first} {old} {new} {later} {text} same onward all h writes none = search (rules, printing-writes)
 
--- so some bytes came, or all of them
-reads-either : (ends : Bool) (phase : Phase) (reader now : Reading) (bytes : List ℕ) → GoesOnBy ends Open phase reader now bytes
-    → ReadsSome reader now bytes ⊎ ReadsAll ends reader now bytes
-reads-either ends Open reader now bytes reads = inl reads
-reads-either ends Ended reader now bytes reads = inr reads
-reads-either ends Failed reader now bytes reads = absurd reads
+-- some bytes came, or all of them, and are settled so far
+settled-by : (ends : Bool) (phase : Phase) (built : Built) (reader now : Reading) (bytes : List ℕ) (given place : ℕ)
+    → GoesOnBy ends Open phase reader now bytes → IsSettledIn phase built bytes given place
+    → IsSettled ends built reader now bytes given place
+settled-by ends Open built reader now bytes given place reads settled = inl (reads, settled)
+settled-by ends Ended built reader now bytes given place reads settled = inr (reads, settled.0, settled.1)
+settled-by ends Failed built reader now bytes given place reads settled = absurd reads
 
 -- before a read the lines of the matches that were given are written
 pub record IsPrintingStream (ends : Bool) (built : Built) (v : Streaming) (reader new_reader : Reading)
@@ -129,6 +202,15 @@ module _ {ends : Bool} {built : Built} {v : Streaming} {reader new_reader : Read
         → PrintsSoFar w writer new more Found
     line-printed prints = prints (matches_so_far w) (drop w.given (matches_so_far w)) writer outcome next-printing
 
+    -- and as many lines were written before
+    before-next : {n : ℕ} → v.given < n → length next-printing.done < n
+    before-next {n} less =
+        let within = slice_get_within (stream_result v.built (v.bytes ++ gives.more)) v.given m gives.next in
+        let given = ap (λ (u : Streaming). u.given) gives.same in
+        let all = ap (λ (u : Streaming). length (matches_so_far u)) gives.same in
+        let rest = length-drop w.given (matches_so_far w) in
+        let many = given-many {n = v.given} next-printing (omega arith) in omega arith
+
     next-reads : GoesOnBy ends Open w.phase reader later w.bytes
     next-reads = grind (arith, common_steps)
 
@@ -136,13 +218,16 @@ module _ {ends : Bool} {built : Built} {v : Streaming} {reader new_reader : Read
     next-built = ap (λ (u : Streaming). u.built) gives.same ∙ h.built_is
 
     -- a line couldn't be written
-    pub print-stops : {new : Writing} {fault : Fault} → FailsToPrint writer new (lines (matches_so_far w)) fault
+    pub print-stops : {new : Writing} {fault : Fault} → FailsToPrintSettled w writer new fault
         → FailsToPrintStream ends built reader later writer new fault
-    print-stops {new} {fault} fails = record {
+    print-stops {new} {fault} (given, place, settled, fails) = record {
       bytes = w.bytes;
       cause = inr (
-        reads-either ends w.phase reader later w.bytes next-reads,
-        subst (λ (b : Built). FailsToPrint writer new (lines (stream_result b w.bytes)) fault) next-built fails,
+        given,
+        place,
+        subst (λ (b : Built). IsSettled ends b reader later w.bytes given place) next-built
+            (settled-by ends w.phase w.built reader later w.bytes given place next-reads settled),
+        subst (λ (b : Built). FailsToPrint writer new (lines (take given (stream_result b w.bytes))) fault) next-built fails,
       );
     }
 
@@ -151,7 +236,15 @@ module _ {ends : Bool} {built : Built} {v : Streaming} {reader new_reader : Read
         → ((all rest : List Occurrence) (old : Writing) (before : Outcome) → IsPrinting all (m ∷ rest) old new_writer text before
         → FailsToPrint old new (lines all) fault)
         → FailsToPrintStream ends built reader later writer new fault
-    line-stops fails = print-stops (fails (matches_so_far w) (drop w.given (matches_so_far w)) writer outcome next-printing)
+    line-stops fails =
+        let settled = gives.settled in let ms = matches_so_far w in
+        print-stops (
+          settled.given,
+          settled.place,
+          settled.settled,
+          fails (take settled.given ms) _ writer outcome
+              (printing-among settled.given ms (drop w.given ms) m next-printing (before-next settled.among)),
+        )
 
     -- the lines of all matches so far were written
     pub printed-more : {x : Streaming} {new : Writing} {left : List ℕ} → HasPrintedRead w x writer new left Found

@@ -6,9 +6,9 @@ use Rattle.ac_search.specs.declared.MatchError.{MatchError}
 use Rattle.ac_search.specs.declared.StreamError.{StreamError}
 use Rattle.ac_search.specs.Input.{whole_input}
 use Rattle.ac_search.specs.Built.{Built, overlapping_iter_refusal, stream_refusal}
-use Rattle.ac_search.specs.Device.{Reading, ReadsAll, ReadsSome, Writing, WritesAll, WritesSome}
+use Rattle.ac_search.specs.Device.{Reading, ReadsAll, Writing, WritesAll, WritesSome}
 use Rattle.ac_search.specs.Replacement.{replaced}
-use Rattle.ac_search.specs.Stream.{stream_result, FailsToRead, IsAllSettled}
+use Rattle.ac_search.specs.Stream.{stream_result, FailsToRead, IsAllSettled, IsSettled}
 use Rattle.acs.specs.declared.fault.Fault.{Fault}
 use Rattle.acs.specs.declared.fault.Fault.TheVariants.{Io, Memory, WriteZero}
 use Rattle.acs.specs.declared.request.Mode.{Mode}
@@ -98,13 +98,13 @@ module _ (ends : Bool) (mode : Mode) (built : Built) (texts : List (List ℕ)) (
     pub writes : FailsToWriteFor mode writer new_writer (output_of mode built texts haystack).text fault
 
   -- some bytes of a stream came, and then a read has failed, or brought more than usize counts: what is settled was written.
-  -- Or they came, with the end or without it, and what the mode writes for them couldn't be written
+  -- Or they came, with the end or without it, and what the mode writes for so many settled matches couldn't be written
   pub record FailsOnStream (fault : Fault) : Type 0 where
     pub bytes : List ℕ
     pub cause : ((e : StreamError) × (fault ≡ stream_fault_of e) × FailsToRead 0 reader new_reader bytes e
         × WritesSettled mode built texts bytes writer new_writer)
-        ⊎ ((ReadsSome reader new_reader bytes ⊎ ReadsAll ends reader new_reader bytes)
-        × FailsToWriteFor mode writer new_writer (output_of mode built texts bytes).text fault)
+        ⊎ ((given place : ℕ) × IsSettled ends built reader new_reader bytes given place
+        × FailsToWriteFor mode writer new_writer (text_as_far mode built texts bytes given place) fault)
 
   -- or while it read and wrote in turn
   abbrev pub FailsStreaming : Fault → Type 0

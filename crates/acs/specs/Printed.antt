@@ -1,5 +1,5 @@
 -- How far the printing of matches has come.
-use Rattle.std.specs.Prelude.{◌≡◌, ◌≤◌, ℕ, Bool, List, [], ◌∷◌, ◌++◌, drop, MatchResult, Option, Result}
+use Rattle.std.specs.Prelude.{◌≡◌, ◌≤◌, ℕ, Bool, List, [], ◌∷◌, ◌++◌, drop, take, MatchResult, Option, Result}
 use Rattle.std.specs.Io.KnownBytes.{Appends}
 use Rattle.std.specs.Iterator.{YieldsFirst}
 use Rattle.std.specs.declared.vec.Vec.{Vec}
@@ -7,7 +7,7 @@ use Rattle.ac_search.specs.Built.{Built}
 use Rattle.ac_search.specs.Device.{Reading, ReadsAll, Writing, WritesAll}
 use Rattle.ac_search.specs.Occurrence.{Occurrence}
 use Rattle.ac_search.specs.Stream.{stream_result}
-use Rattle.ac_search.specs.Streams.{Streaming, matches_so_far}
+use Rattle.ac_search.specs.Streams.{IsSettledIn, Streaming, matches_so_far}
 use Rattle.acs.specs.declared.fault.Fault.{Fault}
 use Rattle.acs.specs.declared.request.Mode.TheVariants.{Stream}
 use Rattle.acs.specs.declared.run.Outcome.{Outcome}
@@ -68,13 +68,19 @@ pub record HasPrintedRead (v new_v : Streaming) (old new : Writing) (text : List
   pub nothing : text ≡ []
   pub printing : PrintsSoFar new_v old new [] outcome
 
+-- a beginning of the lines of so many settled matches was written, and then a write or memory has failed
+abbrev pub FailsToPrintSettled : Streaming → Writing → Writing → Fault → Type 0
+FailsToPrintSettled v old new fault =
+    (given place : ℕ) × IsSettledIn v.phase v.built v.bytes given place
+    × FailsToPrint old new (lines (take given (matches_so_far v))) fault
+
 -- whatever was written before, the matches that a finder has settled are printed too; or a write or memory has failed
 abbrev pub PrintsRead : {Z : Type 0} → Streaming → Streaming → Writing → Writing → Vec ℕ Z → Vec ℕ Z
     → Result (Unit {0}) Fault → Type 0
 PrintsRead v new_v writer new_writer text new_text result =
     (old : Writing) → PrintsSoFar v old writer text.items Found
     → MatchResult result (λ _. HasPrintedRead v new_v old new_writer new_text.items Found)
-    (FailsToPrint old new_writer (lines (matches_so_far v)))
+    (FailsToPrintSettled v old new_writer)
 
 module _ (ends : Bool) (built : Built) (reader new_reader : Reading) (writer new_writer : Writing) where
   -- a stream was read to its end, and the lines of all its matches are written

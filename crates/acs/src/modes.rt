@@ -13,7 +13,7 @@ use crate::input::read_all;
 use crate::output::{print_all, print_found, print_stream, print_text};
 use crate::request::texts_of;
 use crate::run::Outcome;
-use ac_search::laws::{settled_begins_whole, streams_settle_alike};
+use ac_search::laws::streams_settle_alike;
 use ac_search::{AhoCorasick, Input, MatchKind, Sink, Source};
 use std::alloc::Allocator;
 
@@ -127,7 +127,6 @@ pub(crate) fn replace_stream<A: Allocator + Clone, R: Source, W: Sink>(
     ensures { ReplacesOn R.Source W.Sink StreamReplace searcher.now words.now reader.old reader.new writer.old writer.new result }
 {
     let texts = texts_of(alloc.clone()?, words)?;
-    settled_begins_whole();
     searcher.try_stream_replace_all(alloc, reader, writer, &texts)?;
     Ok(Outcome::Found)
 }

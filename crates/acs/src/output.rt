@@ -127,7 +127,7 @@ pub(crate) fn print_all<A: Allocator + Clone, I: Iterator<Item = Match> + Drop, 
 /// Adds the lines of all matches that need no further read, and writes the text.
 ///
 /// # Errors
-/// As `print_all`, of the matches of what was read.
+/// As `print_all`, of some of the matches that are settled.
 fn print_read<A: Allocator + Clone, B: Allocator, Z: Allocator, W: Sink>(
     text: &mut Vec<u8, A>,
     finder: &mut StreamFinder<'_, B, Z>,
@@ -148,7 +148,7 @@ fn print_read<A: Allocator + Clone, B: Allocator, Z: Allocator, W: Sink>(
 ///
 /// # Errors
 /// `Io` where a read fails and `TooLong` where more bytes come than a `usize` counts: these lines were written then. Those of
-/// `print_all`: a beginning of the lines of all matches so far was written then, and not all of them.
+/// `print_all`: a beginning of the lines of some settled matches was written then, and not all of them.
 pub(crate) fn print_stream<A: Allocator + Clone, B: Allocator, Z: Allocator, R: Source, W: Sink>(
     alloc: A,
     finder: &mut StreamFinder<'_, B, Z>,

@@ -52,8 +52,8 @@ pub enum Outcome {
 ///
 /// Before the first read nothing is written. Where a read fails in the modes `stream` and `sreplace`, so much was written as
 /// has to be before each read; in the other modes nothing was. Where a run fails otherwise after its first read, a beginning
-/// of the lines or of the replaced text was written, and not all of it; where memory was refused for a replaced text, nothing
-/// was.
+/// of the lines or of the replaced text was written, in these modes as far as they are settled, and not all of it; where
+/// memory was refused for a replaced text, nothing was.
 pub fn run<A: Allocator + Clone, R: Source, W: Sink>(
     alloc: A,
     words: &[&str],

@@ -1,11 +1,15 @@
 //! Engines without a searcher.
+use crate::checks::same;
 use ac_search::dfa::{self, table_len};
 use ac_search::nfa::contiguous::{self, Format, format_of, state_words};
 use ac_search::nfa::noncontiguous;
 use ac_search::{
-    Anchored, Automaton, BuildError, Input, Looks, Match, MatchKind, MatchRest, PatternID,
-    StartKind,
+    AhoCorasick, Anchored, Automaton, BuildError, Input, Looks, Match, MatchKind, MatchRest,
+    PatternID, StartKind,
 };
+use std::alloc::Global;
+use std::fmt::Debug;
+use std::process::Abort;
 use std::test::Fail;
 
 #[test]
@@ -33,6 +37,36 @@ fn a_dfa(rt: HostRuntime) -> Result<(), Fail> {
     let found = dfa.try_find(Input::new(b"ushers"));
     are_equal!(rt; found, Ok(Some(Match::must(1, 1..4))));
     Ok(())
+}
+
+/// Compares what a person is shown of a searcher or an engine.
+fn compare_shown<T: Debug>(
+    rt: &impl Abort,
+    alloc: Global,
+    value: &T,
+    wanted: &str,
+) -> Result<(), Fail> {
+    let shown = format!(in alloc; "{:?}", *value)?;
+    same(rt, shown.as_str(), wanted);
+    Ok(())
+}
+
+#[test]
+fn searchers_and_engines_are_shown(rt: HostRuntime) -> Result<(), Fail> {
+    let alloc = rt.alloc();
+    let patterns: &[&[u8]] = &[b"he", b"she"];
+    let shown = "NFA { match_kind: Standard, patterns: 2 }";
+    compare_shown(
+        &rt,
+        alloc,
+        &noncontiguous::NFA::new(alloc, patterns)?,
+        shown,
+    )?;
+    compare_shown(&rt, alloc, &contiguous::NFA::new(alloc, patterns)?, shown)?;
+    let shown = "DFA { match_kind: Standard, patterns: 2 }";
+    compare_shown(&rt, alloc, &dfa::DFA::new(alloc, patterns)?, shown)?;
+    let shown = "AhoCorasick { kind: DFA, match_kind: Standard, patterns: 2 }";
+    compare_shown(&rt, alloc, &AhoCorasick::new(alloc, patterns)?, shown)
 }
 
 #[test]

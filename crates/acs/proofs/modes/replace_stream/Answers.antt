@@ -32,7 +32,7 @@ returns-in_err-try_stream_replace_all g c =
       | inl refused ↦ inl (refused-first built texts ends reader new_reader writer new_writer StreamReplace _ e
           (stream_fault_of e) refl
           (λ same. (ap g.R.Source.told same.0, ap g.W.Sink.told same.1)) refused)
-      | inr fails ↦ replacing-fails built texts ends reader new_reader writer new_writer c.settled_begins_whole.ensures e
+      | inr fails ↦ replacing-fails built texts ends reader new_reader writer new_writer e
           (stream_fault_of e) refl
           fails.0
           (subst (λ (ts : List (List ℕ)). FailsToReplace built ts writer new_writer ends reader new_reader e)

@@ -1,11 +1,10 @@
 use Rattle.std.proofs.Common.{◌∙◌, ◌+◌, ℕ, List, ap, arith, drop, subst, sym, rules}
 use Rattle.ac_search.specs.Streams.{GivesMatch, Streaming, matches_so_far}
 use Rattle.acs.specs.declared.run.Outcome.TheVariants.{Found}
-use Rattle.acs.specs.Lines.{lines}
-use Rattle.acs.specs.Modes.{FailsToPrint, FailsToWrite}
+use Rattle.acs.specs.Modes.{FailsToWrite}
+use Rattle.acs.specs.Printed.{FailsToPrintSettled}
 use Rattle.acs.proofs.Results.{refused-by}
-use Rattle.acs.proofs.Printing.{printing-fails}
-use Rattle.acs.proofs.Streaming.{read-printed, read-printing}
+use Rattle.acs.proofs.Streaming.{next-stops, read-printed, read-printing, text-stops}
 use Rattle.acs.proofs.output.print_read.Goals as goal
 
 -- the line of one more match is in the text, or was written with it
@@ -31,31 +30,22 @@ loop-m-preserved g c =
 pub returns-in_err-print_line : goal.returns-in_err-print_line
 returns-in_err-print_line g c old h =
     let told = g.W.Sink.told in
-    let w = c.next_read.new.self in
-    let gives : GivesMatch c.loop-m.finder c.in-Some.m w = c.in-Some.ensures in
-    refused-by c.from_residual.result c.in_err-print_line.field-0.0 _
-    (FailsToPrint old (told c.print_line.new.writer) (lines (matches_so_far c.args.finder.now)))
+    let v = c.loop-m.finder in
+    let fault = c.in_err-print_line.field-0.0 in
+    refused-by c.from_residual.result fault _ (FailsToPrintSettled c.args.finder.now old (told c.print_line.new.writer))
     c.from_residual.ensures.1
-    (subst (λ (u : Streaming). FailsToPrint old (told c.print_line.new.writer) (lines (matches_so_far u))
-    c.in_err-print_line.field-0.0) c.loop-m.invariant.same
-    (subst (λ (u : Streaming). FailsToPrint old (told c.print_line.new.writer) (lines (matches_so_far u))
-    c.in_err-print_line.field-0.0) gives.same
-    (c.in_err-print_line.ensures (matches_so_far w) (drop w.given (matches_so_far w)) old Found
-    (read-printing gives (c.loop-m.invariant.printing old h)))))
+    (subst (λ (u : Streaming). FailsToPrintSettled u old (told c.print_line.new.writer) fault) c.loop-m.invariant.same
+    (next-stops c.in-Some.ensures (c.loop-m.invariant.printing old h) c.in_err-print_line.ensures))
 
 -- the text could not be written
 pub returns-in_err-write_all : goal.returns-in_err-write_all
 returns-in_err-write_all g c old h =
     let told = g.W.Sink.told in
-    let v = c.loop-m.finder in
     let fault = c.in_err-write_all.field-0.0 in
     refused-by c.from_residual-in_err-write_all.result fault _
-    (FailsToPrint old (told c.write_all.new.writer) (lines (matches_so_far c.args.finder.now)))
-    c.from_residual-in_err-write_all.ensures.1
-    (subst (λ (u : Streaming). FailsToPrint old (told c.write_all.new.writer) (lines (matches_so_far u)) fault)
-    c.loop-m.invariant.same
-    (printing-fails (matches_so_far v) (drop v.given (matches_so_far v)) old (told c.loop-m.writer)
-    c.loop-m.text.items Found (c.loop-m.invariant.printing old h) (told c.write_all.new.writer) fault
+    (FailsToPrintSettled c.args.finder.now old (told c.write_all.new.writer)) c.from_residual-in_err-write_all.ensures.1
+    (subst (λ (u : Streaming). FailsToPrintSettled u old (told c.write_all.new.writer) fault) c.loop-m.invariant.same
+    (text-stops c.in_default.ensures (c.loop-m.invariant.printing old h)
     (subst (λ (bytes : List ℕ). FailsToWrite (told c.loop-m.writer) (told c.write_all.new.writer) bytes fault)
     c.deref.ensures.value c.in_err-write_all.ensures)))
 
