@@ -1,5 +1,5 @@
 -- What `ac_raw_open` returns and leaves.
-use Rattle.std.specs.Prelude.{◌≡◌, ◌≢◌, ◌⊎◌, ◌&&◌, ℕ, ℤ, List, length, MatchOption, MatchResult, Option, None, Some, Result, if◌then◌else◌}
+use Rattle.std.specs.Prelude.{◌≡◌, ◌≢◌, ◌⊎◌, ◌&&◌, ℕ, ℤ, List, length, MatchResult, Option, None, Some, Result, if◌then◌else◌}
 use Rattle.ac_search.specs.declared.BuildError.{BuildError}
 use Rattle.ac_search.specs.Builds.{refusal_or}
 use Rattle.ac_search.specs.Patterns.{limit_refusal}

@@ -1,4 +1,4 @@
-use Rattle.ac_util.proofs.Prelude.{◌≡◌, ◌∙◌, ℕ, List, ap, sym, subst, rules}
+use Rattle.ac_util.proofs.Prelude.{◌≡◌, ◌∙◌, ap, sym, subst, rules}
 use Rattle.ac_search.specs.Built.{search_in}
 use Rattle.ac_search.specs.Input.{input_of}
 use Rattle.ac_search.specs.Occurrence.{Search, from}
