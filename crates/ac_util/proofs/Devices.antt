@@ -21,8 +21,8 @@ pub take-short : (at : ℕ) (bytes : List ℕ) → at < length bytes → length 
 take-short at bytes less = let l = length-take-le at bytes (omega arith) in omega arith
 
 -- a write that took something wasn't idle
-pub not-idle : (n : ℕ) → n ≢ 0 → idle n ≡ 0
-not-idle n some = grind (arith, nat_tests)
+pub not-idle : (n room : ℕ) → n ≢ 0 → idle n room ≡ 0
+not-idle n room some = grind (arith, nat_tests)
 
 -- what is left of the bytes from a place on
 pub rest-range : (at : ℕ) (bytes : List ℕ) → slice_range bytes at (length bytes) ≡ drop at bytes

@@ -1,5 +1,5 @@
 -- What a read and a write do, and what many of them do: which bytes move, and which counts rise.
-use Rattle.std.specs.Prelude.{◌≡◌, ℕ, ◌+◌, ◌<◌, ◌≤◌, Bool, true, ◌==◌, List, ◌++◌, length, take, Option, Some, Result, MatchResult, if◌then◌else◌}
+use Rattle.std.specs.Prelude.{◌≡◌, ℕ, ◌+◌, ◌<◌, ◌≤◌, Bool, true, ◌&&◌, ◌==◌, nat_lt, List, ◌++◌, length, take, Option, Some, Result, MatchResult, if◌then◌else◌}
 use Rattle.std.specs.Io.{StartsWith}
 use Rattle.std.specs.IoError.{error_kind}
 use Rattle.std.specs.declared.io.Error.{Error}
@@ -10,14 +10,14 @@ use Rattle.ac_util.specs.declared.device.WriteError.TheVariants.{Io, WriteZero}
 use Rattle.ac_util.specs.Patterns.{usize_max}
 
 -- what is noted of the calls of a reader or a writer: how many failed, and the error of the last one; and how many moved no
--- byte
+-- byte though there was room
 pub record Missed : Type 0 where
   pub failed : ℕ
   pub error : Option Error
   pub idles : ℕ
 
 -- the bytes that a reader has left, if it reports them; how many of its calls failed, and the error of the last one; and
--- how many reads gave no byte
+-- how many reads into a slice that isn't empty gave no byte
 pub record Reading : Type 0 where
   pub left : Option (List ℕ)
   pub failed : ℕ
@@ -25,16 +25,16 @@ pub record Reading : Type 0 where
   pub empties : ℕ
 
 -- the bytes that were written, if the writer reports them; how many of its calls failed, and the error of the last one;
--- and how many writes took no byte
+-- and how many writes of a piece that isn't empty took no byte
 pub record Writing : Type 0 where
   pub written : Option (List ℕ)
   pub failed : ℕ
   pub error : Option Error
   pub idles : ℕ
 
--- 1 where nothing moved, else 0
-abbrev pub idle : ℕ → ℕ
-idle moved = if moved == 0 then 1 else 0
+-- 1 where nothing moved though there was room, else 0
+abbrev pub idle : ℕ → ℕ → ℕ
+idle moved room = if moved == 0 && nat_lt 0 room then 1 else 0
 
 -- n bytes came and are the first ones of `into`. Where `ends` is true, a slice that isn't empty gets none
 -- only at the end of the bytes
@@ -43,7 +43,7 @@ pub record Took (ends : Bool) (old new : Reading) (into : List ℕ) (n : ℕ) : 
   pub moved : Consumes old.left new.left (take n into)
   pub ended : ends ≡ true → n ≡ 0 → 0 < length into → IsAtEnd new.left
   pub failed : new.failed ≡ old.failed
-  pub empties : new.empties ≡ old.empties + idle n
+  pub empties : new.empties ≡ old.empties + idle n (length into)
 
 -- a read answered r: it took what r says, or it failed, and nothing changed but the count of failures and their last error
 abbrev pub Reads : Bool → Reading → Reading → Result ℕ Error → List ℕ → Type 0
@@ -55,7 +55,7 @@ pub record Gave (old new : Writing) (piece : List ℕ) (n : ℕ) : Type 0 where
   pub within : n ≤ length piece
   pub moved : Appends old.written new.written (take n piece)
   pub failed : new.failed ≡ old.failed
-  pub idles : new.idles ≡ old.idles + idle n
+  pub idles : new.idles ≡ old.idles + idle n (length piece)
 
 -- a write answered r: it gave what r says, or it failed, and nothing changed but the count of failures and their last error
 abbrev pub Writes : Writing → Writing → Result ℕ Error → List ℕ → Type 0

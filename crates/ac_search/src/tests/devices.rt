@@ -72,7 +72,7 @@ impl<'a> Source for Pieces<'a> {
         let left = self.left;
         let n = most.min(left.len()).min(into.len());
         into[..n].copy_from_slice(&left[..n]);
-        self.misses.record(n);
+        self.misses.record(n, into.len());
         self.left = &left[n..];
         Ok(n)
     }
@@ -116,7 +116,7 @@ impl<'a> Sink for Few<'a> {
         if n == 0 && self.fails {
             return Err(self.misses.fail(io::Error::from(WRITE)));
         }
-        self.misses.record(n);
+        self.misses.record(n, piece.len());
         Ok(n)
     }
 }

@@ -55,7 +55,7 @@ impl<R: Read + Drop> Source for FromRead<R> {
         match self.inner.read(into) {
             Ok(n) => {
                 self.known = Remembered::of(&self.inner);
-                self.misses.record(n);
+                self.misses.record(n, into.len());
                 Ok(n)
             }
             Err(e) => Err(self.misses.fail(e)),
@@ -107,7 +107,7 @@ impl<W: Write + Drop> Sink for IntoWrite<W> {
         match self.inner.write(piece) {
             Ok(n) => {
                 self.known = Remembered::of(&self.inner);
-                self.misses.record(n);
+                self.misses.record(n, piece.len());
                 Ok(n)
             }
             Err(e) => Err(self.misses.fail(e)),

@@ -50,7 +50,7 @@ impl<'a> Source for Bytes<'a> {
         ensures full { IfSome self.old.left (λ bytes. result ≡ Ok (min (length bytes) (length into.old))) }
     {
         let n = self.left.read(into)?;
-        self.misses.record(n);
+        self.misses.record(n, into.len());
         Ok(n)
     }
 }
@@ -100,10 +100,7 @@ impl<A: Allocator> Sink for Written<A> {
         ensures refused { IfErr result (λ e. error_kind e ≡ OutOfMemory) }
     {
         match self.bytes.extend_from_slice(piece) {
-            Ok(()) => {
-                self.misses.record(piece.len());
-                Ok(piece.len())
-            }
+            Ok(()) => Ok(piece.len()),
             Err(e) => Err(self.misses.fail(e.into())),
         }
     }

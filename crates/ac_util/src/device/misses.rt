@@ -7,8 +7,8 @@ use crate::tally::Tally;
 use std::io;
 use std::marker::Model;
 
-/// How often a call failed, the error of the last one that did, and how often one moved no byte: what contracts see of a
-/// reader or a writer beside its bytes.
+/// How often a call failed, the error of the last one that did, and how often one moved no byte though there was room: what
+/// contracts see of a reader or a writer beside its bytes.
 ///
 /// A `Source` or a `Sink` of your own keeps one, and tells it of each call. At run time it takes no memory and no work.
 #[derive(Drop)]
@@ -49,11 +49,11 @@ impl Misses {
         error.unwrap()
     }
 
-    /// Counts a call that moved so many bytes, if these are none.
-    pub fn record(&mut self, moved: usize)
-        ensures { self.new ≡ record self.old { idles = self.old.idles + idle moved } }
+    /// Counts a call that moved so many bytes where there was room for so many, if it moved none and there was room.
+    pub fn record(&mut self, moved: usize, room: usize)
+        ensures { self.new ≡ record self.old { idles = self.old.idles + idle moved room } }
     {
-        if moved == 0 {
+        if moved == 0 && room > 0 {
             self.idles = Tally::after(&self.idles);
         }
     }

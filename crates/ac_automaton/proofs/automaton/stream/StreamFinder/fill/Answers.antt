@@ -71,7 +71,7 @@ returns-in-Ok g c =
       reads = record {
         moved = took.moved;
         failed = took.failed;
-        empties = (let e = took.empties in let i = not-idle n
+        empties = (let e = took.empties in let i = not-idle n (length into)
             (λ e. absurd (omega (arith, c.in-Ok.n-test))) in omega arith);
       };
       same = filled-as c.args.self.now c.make_room.new.self _ c.self.view_is c.make_room.ensures.same _
@@ -103,7 +103,7 @@ returns-in-Ok-2 g c =
             let w = took.within in let d = length-drop at c.read_after.new.buffer in omega (arith, c.if-self-n.false));
         moved = took.moved;
         failed = took.failed;
-        empties = (let e = took.empties in let i = not-idle n
+        empties = (let e = took.empties in let i = not-idle n (length into)
             (λ e. absurd (omega (arith, c.in-Ok.n-test))) in omega arith);
       };
       same = closed-as c.args.self.now c.make_room.new.self _ c.self.view_is c.make_room.ensures.same _
