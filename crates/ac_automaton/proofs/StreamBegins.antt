@@ -1,6 +1,6 @@
 -- The search of a stream of which nothing was read: nothing is picked, found or settled yet.
-use Rattle.ac_util.proofs.Prelude.{◌≡◌, ℕ, ◌-◌, ◌<◌, Bool, List, [], length, max, inl, refl, arith, Some, None, if◌then◌else◌, not, rules, false, Option, IfSome, slice_get, subst, sym, common_steps}
-use Rattle.ac_automaton.specs.Prelude.{buffer_len, Built, CouldChange, IsAllGiven, Streaming, is_leftmost, IsSettledBy, longest_len, Node, pick, stream_refusal, stream_result, has_empty, MatchKind, Occurrence, Search, IsStreaming, most_kept, plain_of, initial_stream, stream_from, ChainMatch}
+use Rattle.ac_util.proofs.Prelude.{◌≡◌, ℕ, ◌-◌, ◌<◌, Bool, List, [], length, max, inl, refl, arith, Some, None, if◌then◌else◌, not, rules, false, Option, IfSome, slice_get, take, subst, sym, common_steps}
+use Rattle.ac_automaton.specs.Prelude.{buffer_len, Built, CouldChange, IsAllGiven, last_end, Streaming, is_leftmost, IsSettledBy, longest_len, Node, pick, stream_refusal, stream_result, has_empty, MatchKind, Occurrence, Search, IsStreaming, most_kept, plain_of, initial_stream, stream_from, ChainMatch}
 use Rattle.ac_util.proofs.Walks.{next-none, walk_after-None, pick-Occurs}
 use Rattle.ac_util.proofs.Onward.{after-start}
 use Rattle.ac_automaton.proofs.StreamRefusals.{allowed-some}
@@ -109,7 +109,7 @@ given-begun : (built : Built) → stream_refusal built ≡ None → IsAllGiven (
 given-begun built allowed = record {
   settled = settled-begun built allowed;
   near = omega arith;
-  next = subst (λ (ms : List Occurrence). IfSome (slice_get ms 0) (CouldChange built [])) (sym (stream_result-nothing built allowed)) tt;
+  next = subst (λ (ms : List Occurrence). IfSome (slice_get ms 0) (CouldChange built [] (last_end (take 0 ms)))) (sym (stream_result-nothing built allowed)) tt;
   within = omega arith;
 }
 

@@ -1,6 +1,6 @@
 -- The search of a stream gives no match: as far as which place it is settled, and from where on bytes are kept.
-use Rattle.ac_util.proofs.Prelude.{◌≡◌, ◌⊎◌, ℕ, ◌+◌, ◌-◌, ◌≤◌, true, List, length, max, inl, inr, refl, ap, sym, subst, ◌∙◌, arith, Option, Some, None, IfSome, slice_get, slice_get_within, rules, append-nil, common_steps}
-use Rattle.ac_automaton.specs.Prelude.{CouldChange, CouldNextChange, IsAllGiven, is_leftmost, IsNear, IsSettledAt, IsSettledBy, Node, Occurrence, pick, Standard, stream_result, Ended, Failed, HasGivenSettled, Inside, IsSettledIn, IsStreaming, kept_from, Open, Phase, StandsPast, stream_from, Streaming, ChainMatch, ChainRest}
+use Rattle.ac_util.proofs.Prelude.{◌≡◌, ◌⊎◌, ℕ, ◌+◌, ◌-◌, ◌≤◌, true, List, length, take, max, inl, inr, refl, ap, sym, subst, ◌∙◌, arith, Option, Some, None, IfSome, slice_get, slice_get_within, rules, append-nil, common_steps}
+use Rattle.ac_automaton.specs.Prelude.{CouldChange, CouldNextChange, IsAllGiven, is_leftmost, last_end, IsNear, IsSettledAt, IsSettledBy, Node, Occurrence, pick, Standard, stream_result, Ended, Failed, HasGivenSettled, Inside, IsSettledIn, IsStreaming, kept_from, Open, Phase, StandsPast, stream_from, Streaming, ChainMatch, ChainRest}
 use Rattle.ac_util.proofs.Decided.{settled-at}
 use Rattle.ac_util.proofs.Shortest.{longest-most, none-empty}
 use Rattle.ac_util.proofs.Walks.{next-none, walk_after-None}
@@ -33,7 +33,8 @@ module _ {stands : ℕ → Node → Type 0} {chains : List (List ChainMatch)} {i
   pub none-next : pick v.built.kind (stream_from v.built v.bytes i.begun) ≡ None → CouldNextChange v.built v.bytes v.given
   none-next none = by (slice_get (stream_result v.built v.bytes) v.given) refl
     where
-      by : (r : Option Occurrence) → slice_get (stream_result v.built v.bytes) v.given ≡ r → IfSome r (CouldChange v.built v.bytes)
+      by : (r : Option Occurrence) → slice_get (stream_result v.built v.bytes) v.given ≡ r
+          → IfSome r (CouldChange v.built v.bytes (last_end (take v.given (stream_result v.built v.bytes))))
       by None at = tt
       by (Some m) at =
           let within = slice_get_within (stream_result v.built v.bytes) v.given m at in let all = given-all none in absurd (omega arith)

@@ -1,6 +1,6 @@
 -- The match of a stream that comes next but isn't given: it could still change when the last byte came.
-use Rattle.ac_util.proofs.Prelude.{◌≡◌, ℕ, false, List, [], ◌++◌, length, refl, ap, subst, ◌∙◌, arith, Option, None, Some, IfSome, slice_get, slice_get_within, append-nil, common_steps}
-use Rattle.ac_automaton.specs.Prelude.{Built, CouldChange, CouldNextChange, has_empty, HasGivenFirst, Occurrence, pick, Phase, Search, stream_from, stream_result, walk_after}
+use Rattle.ac_util.proofs.Prelude.{◌≡◌, ℕ, false, List, [], ◌++◌, length, refl, ap, subst, ◌∙◌, arith, Option, None, Some, IfSome, slice_get, slice_get_within, take, append-nil, common_steps}
+use Rattle.ac_automaton.specs.Prelude.{Built, CouldChange, CouldNextChange, has_empty, HasGivenFirst, last_end, Occurrence, pick, Phase, Search, stream_from, stream_result, walk_after}
 use Rattle.ac_util.proofs.Shortest.{none-empty}
 use Rattle.ac_util.proofs.Walks.{next-none, next-some, pick-Occurs, walk_after-None, walk_after-Some}
 use Rattle.ac_automaton.proofs.ListLoop.{get-beyond}
@@ -32,10 +32,15 @@ module _ (built : Built) (some : has_empty built ≡ false) (bytes : List ℕ) {
           (walk_after-Some built.kind q first.last n (next-some built.kind q first.last n is (omega arith))) in
           grind (arith, common_steps, on, get-beyond)
 
+  -- those that were given end where it begins
+  ends-there : begun ≡ last_end (take given (stream_result built bytes))
+  ends-there = let count = first.count in let end = first.end in grind (arith, common_steps, whole)
+
   -- so the next match could change if whatever is picked could
-  pub next-could : ((m : Occurrence) → pick built.kind q ≡ Some m → CouldChange built bytes m) → CouldNextChange built bytes given
+  pub next-could : ((m : Occurrence) → pick built.kind q ≡ Some m → CouldChange built bytes begun m) → CouldNextChange built bytes given
   next-could could = by (slice_get (stream_result built bytes) given) refl
     where
-      by : (r : Option Occurrence) → slice_get (stream_result built bytes) given ≡ r → IfSome r (CouldChange built bytes)
+      by : (r : Option Occurrence) → slice_get (stream_result built bytes) given ≡ r
+          → IfSome r (CouldChange built bytes (last_end (take given (stream_result built bytes))))
       by None at = tt
-      by (Some m) at = could m (next-picked m at)
+      by (Some m) at = subst (λ (from : ℕ). CouldChange built bytes from m) ends-there (could m (next-picked m at))

@@ -161,7 +161,7 @@ pub record GivesNextMatch (ends : Bool) (old : Streaming) (m : Occurrence) (new 
   }
 
 -- all matches of what was read that are settled were given, and then a read has failed, or brought more than usize counts,
--- which counts all before it; no others than those are left in the buffer that aren't settled
+-- which counts all before it; no byte is left in the buffer that isn't kept
 pub record GivesError (old : Streaming) (e : StreamError) (new : Streaming) (reader new_reader : Reading)
     : Type 0 where
   pub open' : old.phase ≡ Open

@@ -1,9 +1,9 @@
 -- The replacement of a stream by an engine that supports some starts of its searcher: what it leaves is the searcher's.
-use Rattle.ac_util.proofs.Prelude.{◌≡◌, ◌∙◌, ◌+◌, ℕ, Bool, List, [], ◌∷◌, inl, inr, None, Some, Option, IfSome, slice_get, Result, Ok, Err, ◌⊎◌, subst, rules, arith, Bor, MutBor, common_steps}
+use Rattle.ac_util.proofs.Prelude.{◌≡◌, ◌∙◌, ◌+◌, ℕ, Bool, List, [], ◌∷◌, inl, inr, None, Some, Option, IfSome, slice_get, take, Result, Ok, Err, ◌⊎◌, subst, rules, arith, Bor, MutBor, common_steps}
 use Rattle.ac_search.specs.Prelude.{AnswersStream, AreDecided, Both, CouldChange, IsAllSettled, stream_result, FailsToReplace, FailsToReplaceWith, IsSettled, IsSettledAt, IsSettledBefore, IsSettledBy, LeftmostFirst, LeftmostLongest, MatchKind, No, NoneOpen, Reading, ReplacesStream, ReplacesStreamWith, Standard, start_refusal, StartKind, StepsAreSettled, stream_refusal, StreamError, TextIsSettled, Writing}
 use Rattle.std.specs.Fn.{Mut}
 use Rattle.std.specs.declared.io.Error.{Error}
-use Rattle.ac_automaton.specs.Util.{Built, Occurrence}
+use Rattle.ac_automaton.specs.Util.{Built, last_end, Occurrence}
 use Rattle.ac_search.proofs.Served.{stream-refusals}
 
 module _ (engine : Built) (start_kind : StartKind) where
@@ -30,20 +30,20 @@ module _ (engine : Built) (start_kind : StartKind) where
   settled-by LeftmostLongest bytes given place h = settled-at bytes given place h
 
   -- and the same could still change
-  could-change : (bytes : List ℕ) (m : Occurrence) → CouldChange engine bytes m → CouldChange searcher bytes m
-  could-change bytes m (inl last) = inl last
-  could-change bytes m (inr (place, by, open')) = inr (place, by, (search rules))
+  could-change : (bytes : List ℕ) (from : ℕ) (m : Occurrence) → CouldChange engine bytes from m → CouldChange searcher bytes from m
+  could-change bytes from m (inl last) = inl last
+  could-change bytes from m (inr (place, onward, by, open')) = inr (place, onward, by, (search rules))
 
-  next-could : (bytes : List ℕ) (given : ℕ) (r : Option Occurrence) → IfSome r (CouldChange engine bytes)
-      → IfSome r (CouldChange searcher bytes)
-  next-could bytes given None h = tt
-  next-could bytes given (Some m) h = could-change bytes m h
+  next-could : (bytes : List ℕ) (from : ℕ) (r : Option Occurrence) → IfSome r (CouldChange engine bytes from)
+      → IfSome r (CouldChange searcher bytes from)
+  next-could bytes from None h = tt
+  next-could bytes from (Some m) h = could-change bytes from m h
 
   pub all-settled : (bytes : List ℕ) (given place : ℕ) → IsAllSettled engine bytes given place → IsAllSettled searcher bytes given place
   all-settled bytes given place h = record {
     settled = settled-by engine.kind bytes given place h.settled;
     near = h.near;
-    next = next-could bytes given (slice_get (stream_result engine bytes) given) h.next;
+    next = next-could bytes (last_end (take given (stream_result engine bytes))) (slice_get (stream_result engine bytes) given) h.next;
   }
 
   module _ (supports : (engine.start_kind ≡ Both) ⊎ (engine.start_kind ≡ start_kind))

@@ -95,13 +95,18 @@ module _ (built : Built) (bytes : List ℕ) (low : ℕ) (within : low ≤ length
 
   -- so a match that was found could change
   pub could-change : is_leftmost built.kind ≡ true → (u : List ℕ) → reached built.kind (plain_patterns q) No (text q) ≡ Some u
-      → (m : Occurrence) → pick built.kind q ≡ Some m → m.start < length bytes → CouldChange built bytes m
+      → (m : Occurrence) → pick built.kind q ≡ Some m → m.start < length bytes → CouldChange built bytes low m
   could-change leftmost u stands m is some =
       by u stands (pick-beyond built.kind q refl within (omega arith) leftmost u stands built.kind m is)
     where
       by : (u : List ℕ) → reached built.kind (plain_patterns q) No (text q) ≡ Some u → length bytes ≤ m.start + length u
-          → CouldChange built bytes m
+          → CouldChange built bytes low m
       by [] stands beyond = absurd (omega arith)
       by (x ∷ []) stands beyond = inl (omega arith)
       by (x ∷ y ∷ w) stands beyond =
-          inr (place x (y ∷ w) stands, (let l = long x (y ∷ w) stands in omega arith), opens x (y ∷ w) stands (λ no. absurd (cc)))
+          inr (
+            place x (y ∷ w) stands,
+            omega arith,
+            (let l = long x (y ∷ w) stands in omega arith),
+            opens x (y ∷ w) stands (λ no. absurd (cc)),
+          )

@@ -82,15 +82,17 @@ pub record IsSettledAt (built : Built) (bytes : List ℕ) (given place : ℕ) : 
   pub later : All (λ m. place ≤ m.start) (drop given (stream_result built bytes))
   pub decided : AreDecided built bytes 0 (take given (stream_result built bytes)) place
 
--- a match of these bytes could still change when the last of them came: it is that byte, or an offset no later than its start
--- was open before
-abbrev pub CouldChange : Built → List ℕ → Occurrence → Type 0
-CouldChange built bytes m =
-    (m.start + 1 ≡ length bytes) ⊎ ((place : ℕ) × (place ≤ m.start) × IsOpen built (without_last 1 bytes) place)
+-- the first match of these bytes from an offset on could still change when the last of them came: it is that byte, or some
+-- offset from there up to its start was open before
+abbrev pub CouldChange : Built → List ℕ → ℕ → Occurrence → Type 0
+CouldChange built bytes from m =
+    (m.start + 1 ≡ length bytes)
+    ⊎ ((place : ℕ) × (from ≤ place) × (place ≤ m.start) × IsOpen built (without_last 1 bytes) place)
 
--- so could the match that follows the first so many, if there is one
+-- so could the match that follows the first so many, from the end of the last of these on, if there is one
 abbrev pub CouldNextChange : Built → List ℕ → ℕ → Type 0
-CouldNextChange built bytes given = IfSome (slice_get (stream_result built bytes) given) (CouldChange built bytes)
+CouldNextChange built bytes given =
+    let ms = stream_result built bytes in IfSome (slice_get ms given) (CouldChange built bytes (last_end (take given ms)))
 
 -- one of five things, by why a stream ended
 abbrev pub MatchStreamError : StreamError → (MatchError → Type 0) → Type 0 → (Error → Type 0) → Type 0 → Type 0 → Type 0
