@@ -43,6 +43,9 @@ pub mod Orders
 pub mod Overlapping
 pub mod PastGives
 pub mod PatternHeads
+pub mod PieceReads
+pub mod PieceSteps
+pub mod Pieces
 pub mod Places
 pub mod Prefixes
 pub mod Ranges

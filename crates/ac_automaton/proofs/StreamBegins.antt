@@ -1,6 +1,6 @@
 -- The search of a stream of which nothing was read: nothing is picked, found or settled yet.
-use Rattle.ac_util.proofs.Prelude.{◌≡◌, ℕ, ◌-◌, ◌<◌, Bool, List, [], length, max, inl, refl, arith, Some, None, if◌then◌else◌, not, rules, false, Option, IfSome, slice_get, take, subst, sym, common_steps}
-use Rattle.ac_automaton.specs.Prelude.{buffer_len, Built, CouldChange, IsAllGiven, last_end, Streaming, is_leftmost, IsSettledBy, longest_len, Node, pick, stream_refusal, stream_result, has_empty, MatchKind, Occurrence, Search, IsStreaming, most_kept, plain_of, initial_stream, stream_from, ChainMatch}
+use Rattle.ac_util.proofs.Prelude.{◌≡◌, ◌≢◌, true, ℕ, ◌-◌, ◌<◌, Bool, List, [], length, max, inl, refl, arith, Some, None, if◌then◌else◌, not, rules, false, Option, IfSome, slice_get, take, subst, sym, common_steps}
+use Rattle.ac_automaton.specs.Prelude.{buffer_len, Built, CouldChange, IsAllGiven, last_end, Streaming, is_leftmost, IsSettledBy, longest_len, Node, pick, stream_refusal, stream_result, has_empty, MatchKind, LeftmostFirst, LeftmostLongest, Standard, Occurrence, Search, Inside, IsBuffered, IsStreaming, most_kept, Open, plain_of, initial_stream, stream_from, ChainMatch}
 use Rattle.ac_util.proofs.Walks.{next-none, walk_after-None, pick-Occurs}
 use Rattle.ac_util.proofs.Onward.{after-start}
 use Rattle.ac_automaton.proofs.StreamRefusals.{allowed-some}
@@ -24,8 +24,7 @@ picked-nothing built some order bytes begun = by (pick order q) refl
 
 -- a search over a stream of which nothing was read
 module _ (stands : ℕ → Node → Type 0) (chains : List (List ChainMatch)) (built : Built) (allowed : stream_refusal built ≡ None) (start : ℕ)
-    (starts : stands start (Some [])) (buffer : List ℕ) (long : length buffer ≡ buffer_len built.patterns)
-    (small : length buffer < 9223372036854775808) where
+    (starts : stands start (Some [])) (buffer : List ℕ) where
   begun : IsStreaming stands chains (record {
     start = start;
     stops = not (is_leftmost built.kind);
@@ -42,11 +41,7 @@ module _ (stands : ℕ → Node → Type 0) (chains : List (List ChainMatch)) (b
     starts = starts;
     stops = refl;
     reserve = refl;
-    size = refl;
-    long = long;
-    fits = omega arith;
     filled = omega arith;
-    clear = λ closed. absurd (closed refl);
     counted = refl;
     small = omega arith;
     holds = refl;
@@ -87,6 +82,22 @@ module _ (stands : ℕ → Node → Type 0) (chains : List (List ChainMatch)) (b
         begun = begun';
       }) (record (initial_stream built) { bytes = bytes; given = given; buffer = length buffer })
   streams-begin stops reserve' begun' given bytes s r b n none = search (rules, begun)
+
+-- a buffer of the size that it should have
+pub buffer-begins : {i : Inside} {v : Streaming} → length i.buffer ≡ buffer_len v.built.patterns
+    → length i.buffer < 9223372036854775808 → v.buffer ≡ length i.buffer → v.phase ≡ Open → IsBuffered i v
+buffer-begins {i} {v} long small size open' = record {
+  size = size;
+  long = long;
+  fits = omega arith;
+  clear = λ closed. absurd (closed open');
+}
+
+-- the first match found is given under Standard alone
+pub not-leftmost : (kind : MatchKind) → kind ≢ Standard → is_leftmost kind ≡ true
+not-leftmost Standard other = absurd (other refl)
+not-leftmost LeftmostFirst other = refl
+not-leftmost LeftmostLongest other = refl
 
 -- how many bytes may be kept back, as it is computed
 pub most-kept : (built : Built) (stops : Bool) (longest : ℕ) → stops ≡ not (is_leftmost built.kind)

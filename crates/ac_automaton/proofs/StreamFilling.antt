@@ -1,6 +1,6 @@
 -- The search of a stream: how its buffer is filled, and what is seen then.
 use Rattle.ac_util.proofs.Prelude.{All, ◌≡◌, ◌≢◌, ℕ, ◌+◌, ◌-◌, ◌≤◌, List, ◌++◌, length, length-append, length-drop, take, drop, max, inl, inr, refl, ap, sym, subst, ◌∙◌, arith, append_assoc, slice_range, rules, append-nil, drop-append-le, drop-drop, length-take-le, take-add, common_steps}
-use Rattle.ac_automaton.specs.Prelude.{StandsAfter, Built, from, Node, stream_result, usize_max, Ended, Failed, HasGivenSettled, Inside, IsAllGiven, IsStreaming, Open, Phase, plain_of, StandsPast, stream_from, Streaming, pending, HasGivenFirst, ChainMatch}
+use Rattle.ac_automaton.specs.Prelude.{StandsAfter, Built, from, Node, stream_result, usize_max, Ended, Failed, HasGivenSettled, Inside, IsAllGiven, IsStreaming, Open, Phase, plain_of, StandsPast, stream_from, Streaming, pending, HasGivenFirst, ChainMatch, IsBuffered, buffer_len, longest_len}
 use Rattle.ac_util.proofs.Longer.{pick-extended}
 use Rattle.ac_util.proofs.Spans.{take_drop_take}
 
@@ -17,19 +17,18 @@ module _ (stands : ℕ → Node → Type 0) (chains : List (List ChainMatch)) (i
       → take v.given (stream_result v.built (v.bytes ++ more)) ≡ take v.given (stream_result v.built v.bytes)
   given-stays more goes_on = grind (arith, common_steps, append-nil v.bytes)
 
-  -- what stands after the bytes read has changed
-  module _ (open' : v.phase ≡ Open) (buffer : List ℕ) (long : length buffer ≡ length i.buffer)
-      (keeps : take i.filled buffer ≡ take i.filled i.buffer) where
+  -- the stream goes on
+  module _ (open' : v.phase ≡ Open) where
     goes-on : v.phase ≡ Ended → ⊥
     goes-on ended = absurd (let no = sym open' ∙ ended in cc)
 
     back-open : v.kept ≤ max i.begun (v.front + i.at - i.reserve)
     back-open = elim inv.back [ inl back ↦ back | inr over ↦ absurd (goes-on over.ended) ]
 
-    -- a search stands where it did
-    past-then : (phase : Phase) (size : ℕ)
+    -- whatever stands in the buffer, a search stands where it did
+    past-then : (buffer : List ℕ) (phase : Phase) (size : ℕ)
         → StandsPast stands chains (record i { buffer = buffer }) (record v { phase = phase; buffer = size })
-    past-then phase size =
+    past-then buffer phase size =
         let p = inv.past in
         record {
           node = p.node;
@@ -41,9 +40,9 @@ module _ (stands : ℕ → Node → Type 0) (chains : List (List ChainMatch)) (i
         }
 
     -- in more bytes too
-    past-longer : (n size : ℕ) (more : List ℕ)
+    past-longer : (buffer : List ℕ) (n size : ℕ) (more : List ℕ)
         → StandsPast stands chains (record i { buffer = buffer; filled = n }) (record v { bytes = v.bytes ++ more; buffer = size })
-    past-longer n size more =
+    past-longer buffer n size more =
         let p = inv.past in
         record {
           node = p.node;
@@ -64,52 +63,25 @@ module _ (stands : ℕ → Node → Type 0) (chains : List (List ChainMatch)) (i
               };
         }
 
-    -- and no bytes came
-    pub streams-still : IsStreaming stands chains (record i { buffer = buffer }) (record v { buffer = length buffer })
-    streams-still = search (rules, past-then v.phase (length buffer), back-open)
-
-    -- the stream was closed, and what stands after the bytes that are left was cleared
-    module _ (settled : IsAllGiven v) (clear : All (λ b. b ≡ 0) (drop i.filled buffer)) (phase : Phase) (closed : phase ≢ Open)
-      where
-        pub streams-closed : IsStreaming stands chains (record i { buffer = buffer }) (record v { phase = phase; buffer = length buffer })
-        streams-closed = by phase closed
-          where
-            by : (p : Phase) → p ≢ Open → IsStreaming stands chains (record i { buffer = buffer }) (record v { phase = p; buffer = length buffer })
-            by Open closed = absurd (closed refl)
-            by Ended closed = search (rules, past-then Ended (length buffer), back-open)
-            by Failed closed = search (rules, past-then Failed (length buffer), back-open)
-
-    -- and some of that is bytes more
-    module _ (n : ℕ) (more : List ℕ) (reads : more ≡ take n (drop i.filled buffer)) (room : n ≤ length (drop i.filled buffer))
-        (small : v.front + i.filled + n ≤ usize_max) (bytes : List ℕ) (added : bytes ≡ v.bytes ++ more) where
-      size-more : length more ≡ n
-      size-more = ap length reads ∙ length-take-le n (drop i.filled buffer) room
-
-      filled : IsStreaming stands chains (record i { buffer = buffer; filled = i.filled + n })
-          (record v { bytes = v.bytes ++ more; buffer = length buffer })
-      filled =
-          let size = size-more in let c = inv.counted in let l = length-append v.bytes more in
-          let d = length-drop i.filled buffer in let w = inv.within in let k = inv.kept_within in
-          let f = inv.filled in
+    -- so where more bytes have come, which stand in the buffer
+    module _ (buffer : List ℕ) (filled size : ℕ) (more : List ℕ) (fits : filled ≤ length buffer) (as_long : filled ≡ i.filled + length more)
+        (holds : take filled buffer ≡ drop v.front (v.bytes ++ more)) (small : length (v.bytes ++ more) ≤ usize_max) where
+      pub streams-longer : IsStreaming stands chains (record i { buffer = buffer; filled = filled })
+          (record v { bytes = v.bytes ++ more; buffer = size })
+      streams-longer =
+          let c = inv.counted in let l = length-append v.bytes more in let w = inv.within in let k = inv.kept_within in
           record {
             allowed = inv.allowed;
             starts = inv.starts;
             stops = inv.stops;
             reserve = inv.reserve;
-            size = refl;
-            long = long ∙ inv.long;
-            fits = let r = inv.fits in omega arith;
-            filled = omega arith;
-            clear = λ closed. absurd (closed open');
+            filled = fits;
             counted = omega arith;
-            small = omega arith;
-            holds = take-add i.filled n buffer
-                ∙ ap (λ (xs : List ℕ). xs ++ take n (drop i.filled buffer)) (keeps ∙ inv.holds)
-                ∙ ap (λ (xs : List ℕ). drop v.front v.bytes ++ xs) (sym reads)
-                ∙ sym (drop-append-le v.front v.bytes more (omega arith));
+            small = small;
+            holds = holds;
             within = omega arith;
             read = inv.read;
-            past = past-longer (i.filled + n) (length buffer) more;
+            past = past-longer buffer filled size more;
             given = given-longer v.built v.bytes more i.begun v.phase v.given goes-on inv.given;
             all = λ ended. absurd (goes-on ended);
             failed = λ failed. absurd (let no = sym open' ∙ failed in cc);
@@ -120,9 +92,74 @@ module _ (stands : ℕ → Node → Type 0) (chains : List (List ChainMatch)) (i
             back = inl back-open;
           }
 
-      pub streams-filled : IsStreaming stands chains (record i { buffer = buffer; filled = i.filled + n })
-          (record v { bytes = bytes; buffer = length buffer })
-      streams-filled = search (rules, filled)
+    -- what stands in the buffer after the bytes read has changed
+    module _ (buffer : List ℕ) (long : length buffer ≡ length i.buffer) (keeps : take i.filled buffer ≡ take i.filled i.buffer) where
+      -- and no bytes came
+      pub streams-still : IsStreaming stands chains (record i { buffer = buffer }) (record v { buffer = length buffer })
+      streams-still = search (rules, past-then buffer v.phase (length buffer), back-open)
+
+      -- the stream was closed
+      module _ (settled : IsAllGiven v) (phase : Phase) (closed : phase ≢ Open) where
+        pub streams-closed : IsStreaming stands chains (record i { buffer = buffer }) (record v { phase = phase; buffer = length buffer })
+        streams-closed = by phase closed
+          where
+            by : (p : Phase) → p ≢ Open → IsStreaming stands chains (record i { buffer = buffer }) (record v { phase = p; buffer = length buffer })
+            by Open closed = absurd (closed refl)
+            by Ended closed = search (rules, past-then buffer Ended (length buffer), back-open)
+            by Failed closed = search (rules, past-then buffer Failed (length buffer), back-open)
+
+      -- and some of that is bytes more
+      module _ (n : ℕ) (more : List ℕ) (reads : more ≡ take n (drop i.filled buffer)) (room : n ≤ length (drop i.filled buffer))
+          (small : v.front + i.filled + n ≤ usize_max) (bytes : List ℕ) (added : bytes ≡ v.bytes ++ more) where
+        size-more : length more ≡ n
+        size-more = ap length reads ∙ length-take-le n (drop i.filled buffer) room
+
+        filled : IsStreaming stands chains (record i { buffer = buffer; filled = i.filled + n })
+            (record v { bytes = v.bytes ++ more; buffer = length buffer })
+        filled =
+            let size = size-more in let c = inv.counted in let l = length-append v.bytes more in
+            let d = length-drop i.filled buffer in let k = inv.kept_within in let b = inv.in_buffer in let f = inv.filled in
+            streams-longer buffer (i.filled + n) (length buffer) more (omega arith) (omega arith)
+            (take-add i.filled n buffer
+            ∙ ap (λ (xs : List ℕ). xs ++ take n (drop i.filled buffer)) (keeps ∙ inv.holds)
+            ∙ ap (λ (xs : List ℕ). drop v.front v.bytes ++ xs) (sym reads)
+            ∙ sym (drop-append-le v.front v.bytes more (omega arith))) (omega arith)
+
+        pub streams-filled : IsStreaming stands chains (record i { buffer = buffer; filled = i.filled + n })
+            (record v { bytes = bytes; buffer = length buffer })
+        streams-filled = search (rules, filled)
+
+-- a buffer that stays as it is stays one
+pub buffer-same : {i j : Inside} {v w : Streaming} → IsBuffered i v → j.buffer ≡ i.buffer → j.filled ≡ i.filled → w.buffer ≡ v.buffer
+    → w.built ≡ v.built → w.phase ≡ v.phase → IsBuffered j w
+buffer-same {i} {j} {v} {w} was buffer filled size same phase = record {
+  size = size ∙ was.size ∙ ap length (sym buffer);
+  long = ap length buffer ∙ was.long ∙ ap (λ (b : Built). buffer_len b.patterns) (sym same);
+  fits = (let f = was.fits in let l = ap length buffer in let b = ap (λ (b : Built). longest_len b.patterns) same in omega arith);
+  clear = λ closed.
+      subst (λ (bs : List ℕ). All (λ b. b ≡ 0) bs) (ap (λ (bs : List ℕ). drop i.filled bs) (sym buffer) ∙ ap (λ (n : ℕ). drop n j.buffer) (sym filled))
+      (was.clear (λ open'. closed (phase ∙ open')));
+}
+
+-- it stays one as long as it is, while the stream goes on
+pub buffer-open : {i j : Inside} {v w : Streaming} → length j.buffer ≡ length i.buffer → w.buffer ≡ length j.buffer
+    → w.built ≡ v.built → w.phase ≡ Open → IsBuffered i v → IsBuffered j w
+buffer-open {i} {j} {v} {w} long size same open' was = record {
+  size = size;
+  long = long ∙ was.long ∙ ap (λ (b : Built). buffer_len b.patterns) (sym same);
+  fits = (let f = was.fits in let b = ap (λ (b : Built). longest_len b.patterns) same in omega arith);
+  clear = λ closed. absurd (closed open');
+}
+
+-- or where it is cleared after the bytes that are left
+pub buffer-closed : {i j : Inside} {v w : Streaming} → length j.buffer ≡ length i.buffer → w.buffer ≡ length j.buffer
+    → w.built ≡ v.built → All (λ b. b ≡ 0) (drop j.filled j.buffer) → IsBuffered i v → IsBuffered j w
+buffer-closed {i} {j} {v} {w} long size same clear was = record {
+  size = size;
+  long = long ∙ was.long ∙ ap (λ (b : Built). buffer_len b.patterns) (sym same);
+  fits = (let f = was.fits in let b = ap (λ (b : Built). longest_len b.patterns) same in omega arith);
+  clear = λ _. clear;
+}
 
 -- where all matches that are settled were given, they are given wherever the buffer begins
 pub given-as : (old inside : Streaming) (front : ℕ) → inside ≡ record old { front = front } → IsAllGiven old → IsAllGiven inside

@@ -179,11 +179,7 @@ module _ {stands : ℕ → Node → Type 0} {chains : List (List ChainMatch)} {i
     starts = inv.starts;
     stops = inv.stops;
     reserve = inv.reserve;
-    size = inv.size;
-    long = inv.long;
-    fits = inv.fits;
     filled = inv.filled;
-    clear = inv.clear;
     counted = inv.counted;
     small = inv.small;
     holds = inv.holds;

@@ -1,5 +1,5 @@
 -- The search of a stream makes room in its buffer: the bytes that are kept are moved to the front, or none is.
-use Rattle.ac_util.proofs.Prelude.{All, ◌≡◌, ℕ, ◌+◌, ◌-◌, ◌≤◌, ◌⊎◌, List, ◌++◌, length, length-drop, take, drop, max, inl, inr, refl, ap, sym, subst, ◌∙◌, arith, copy_within, drop-drop, drop-take, drop_all, paste}
+use Rattle.ac_util.proofs.Prelude.{◌≡◌, ℕ, ◌+◌, ◌-◌, ◌≤◌, ◌⊎◌, List, ◌++◌, length, length-drop, take, drop, max, inl, inr, refl, ap, sym, subst, ◌∙◌, arith, copy_within, drop-drop, drop-take, drop_all, paste}
 use Rattle.ac_automaton.specs.Prelude.{StandsAfter, Node, pick, Ended, Inside, HasSearchedAll, IsStreaming, Open, plain_of, stream_from, Streaming, pending, ChainMatch}
 use Rattle.std.proofs.lemmas.List.Edits.{take-paste}
 
@@ -41,11 +41,7 @@ module _ (stands : ℕ → Node → Type 0) (chains : List (List ChainMatch)) (i
           starts = inv.starts;
           stops = inv.stops;
           reserve = inv.reserve;
-          size = refl;
-          long = long ∙ inv.long;
-          fits = (let r = inv.fits in omega arith);
           filled = omega arith;
-          clear = λ closed. absurd (closed open');
           counted = omega arith;
           small = inv.small;
           holds = holds;
@@ -78,8 +74,7 @@ module _ (stands : ℕ → Node → Type 0) (chains : List (List ChainMatch)) (i
         }
 
   -- the end was met, no byte is kept, and the buffer was cleared
-  module _ (ended : v.phase ≡ Ended) (none : v.kept ≡ length v.bytes) (buffer : List ℕ) (long : length buffer ≡ length i.buffer)
-      (clear : All (λ b. b ≡ 0) buffer) where
+  module _ (ended : v.phase ≡ Ended) (none : v.kept ≡ length v.bytes) (buffer : List ℕ) where
     -- the search has read all of it
     all-read : v.front + i.at ≡ v.kept + 0
     all-read =
@@ -104,11 +99,7 @@ module _ (stands : ℕ → Node → Type 0) (chains : List (List ChainMatch)) (i
           starts = inv.starts;
           stops = inv.stops;
           reserve = inv.reserve;
-          size = refl;
-          long = long ∙ inv.long;
-          fits = (let r = inv.fits in omega arith);
           filled = omega arith;
-          clear = λ _. clear;
           counted = omega arith;
           small = inv.small;
           holds = sym (drop_all v.kept v.bytes (omega arith));

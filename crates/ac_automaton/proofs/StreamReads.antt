@@ -1,6 +1,6 @@
 -- The search of a stream reads on in its buffer: where it stands then, whichever bytes follow; and what it gives or keeps there.
 use Rattle.ac_util.proofs.Prelude.{◌≡◌, ◌≢◌, ◌⊎◌, ℕ, ◌+◌, ◌-◌, ◌<◌, ◌≤◌, true, List, [], ◌++◌, length, length-append, take, max, get_or, slice_index, IfSome, inl, inr, refl, ap, sym, subst, ◌∙◌, arith, Option, Some, None, option_map, get_or-drop, get_or_append_left}
-use Rattle.ac_automaton.specs.Prelude.{CouldNextChange, IsSearchFor, StandsAfter, is_leftmost, IsSettledBy, LeftmostFirst, LeftmostLongest, MatchKind, No, Occurrence, pattern_of, pick, Search, Standard, AutomatonView, Cursor, Ended, Failed, GivesMatch, HasGivenSettled, Inside, IsStreaming, kept_from, Phase, place_of, plain_of, StandsPast, stream_from, Streaming, pending, Comes, Point, StopsAt, scan_of, ReadsThrough, streaming_by, ChainMatch, ChainRest, Given}
+use Rattle.ac_automaton.specs.Prelude.{CouldNextChange, IsSearchFor, StandsAfter, is_leftmost, IsSettledBy, LeftmostFirst, LeftmostLongest, MatchKind, No, Occurrence, pattern_of, pick, Search, Standard, AutomatonView, Cursor, Ended, Failed, GivesMatch, HasGivenSettled, Inside, IsStreaming, kept_from, Phase, place_of, plain_of, StandsPast, stream_from, Streaming, pending, Arrives, StopsAt, scan_of, ReadsThrough, streaming_by, ChainMatch, ChainRest, Given}
 use Rattle.ac_automaton.proofs.LedWalks.{IsSearchOf, led-after}
 use Rattle.ac_automaton.proofs.StreamGiving.{gives, streams-then}
 use Rattle.ac_automaton.proofs.StreamKeeping.{gives-settled, kept_open, streams-on}
@@ -42,12 +42,8 @@ module _ (a : AutomatonView) {bytes : List ℕ} {given front kept : ℕ} {phase 
   none-more ended = refl
 
   module _ {there : Cursor} {byte : Option ℕ} (on : IsReadOn a chains i there byte) where
-    abbrev from-here : Point
-    from-here = record { bytes = on.shown; cursor = record { state = i.state; at = i.at }; hand = None; work = on.reads.work }
-
-    abbrev pub comes : Comes (scan_of a No i.stops) from-here inv.past.node
-        (record { bytes = on.shown; cursor = there; hand = byte; work = on.reads.new_work })
-    comes = on.reads.read.on.comes inv.past.node inv.past.there
+    abbrev pub comes : Arrives (scan_of a No i.stops) on.shown inv.past.node (record { state = i.state; at = i.at }) there byte
+    comes = on.reads.comes inv.past.node inv.past.there
 
     abbrev pub u : List ℕ
     u = comes.node
@@ -55,20 +51,20 @@ module _ (a : AutomatonView) {bytes : List ℕ} {given front kept : ℕ} {phase 
     -- a byte in hand is one of those that are filled, and else they were read to their end, or as far as the search stops
     pub hand-there : IfSome byte (λ b. (there.at < i.filled) × (b ≡ slice_index on.shown there.at))
     hand-there =
-        subst (λ (n : ℕ). IfSome byte (λ b. (there.at < n) × (b ≡ slice_index on.shown there.at))) on.long on.reads.read.on.hand
+        subst (λ (n : ℕ). IfSome byte (λ b. (there.at < n) × (b ≡ slice_index on.shown there.at))) on.long on.reads.hand
 
     pub read-enough : byte ≡ None → (i.filled ≤ there.at) ⊎ StopsAt (scan_of a No i.stops) there.state
     read-enough =
-        subst (λ (n : ℕ). byte ≡ None → (n ≤ there.at) ⊎ StopsAt (scan_of a No i.stops) there.state) on.long on.reads.read.enough
+        subst (λ (n : ℕ). byte ≡ None → (n ≤ there.at) ⊎ StopsAt (scan_of a No i.stops) there.state) on.long on.reads.enough
 
     pub onward : i.at ≤ there.at
-    onward = on.reads.read.on.scans.onward
+    onward = on.reads.onward
 
     abbrev pub at : ℕ
     at = front + there.at
 
     pub within-buffer : there.at ≤ i.filled
-    within-buffer = (let w = inv.within in let l = on.long in let h = on.reads.read.on.within (omega arith) in omega arith)
+    within-buffer = (let w = inv.within in let l = on.long in let h = on.reads.within (omega arith) in omega arith)
 
     pub within-bytes : at ≤ length bytes
     within-bytes = let w = within-buffer in let c = inv.counted in omega arith

@@ -10,10 +10,12 @@ pub mod Growths
 pub mod Iterators
 pub mod Onward
 pub mod Overlaps
+pub mod Pieces
 pub mod Prelude
 pub mod Reads
 pub mod Scans
 pub mod Sorted
+pub mod StreamInside
 pub mod Streams
 pub mod Tries
 pub mod Util

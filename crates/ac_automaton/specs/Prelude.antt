@@ -44,12 +44,14 @@ pub use Rattle.ac_automaton.specs.Growths.{EndsPatterns, HasBranched, HasChild, 
 pub use Rattle.ac_automaton.specs.Iterators.{Finds, GoesOn, HasFound, IsByFinds, IsPaid, IsUnderWay, MovesApart, Walking, after, first_work, initial_walk, kept_place, last_after, looks_beyond, reads_once, reads_past, reads_past_by, walking_of}
 pub use Rattle.ac_automaton.specs.Onward.{BeginsPast, HasCounted, IsCounted, IsKept, IsOnward, IsOnwardIn, IsReadingPast, IsRestBefore, StandsBy, kept_work, reached_by}
 pub use Rattle.ac_automaton.specs.Overlaps.{GivesNext, HasGivenItem, HasListed, HasMoved, IsListed, IsListing, IsPlaced, ListsNext, ListsOn, MayList, Overlapping, Takes, TakesDue, due_in, given_by, given_in, initial_listing, is_due, overlapping_by, overlapping_of, rest_in}
+pub use Rattle.ac_automaton.specs.Pieces.{IsFed, TakesOn, hand_bytes, inside_of, most_of, no_pieces}
 pub use Rattle.ac_automaton.specs.Reads.{Advances, Comes, HasReadOn, HasScanned, IsAtStart, IsReading, MayRead, Point, ReadsEnough, ReadsFurther, ReadsOn, ReadsToStop, StopsAt, Tries, at, entered, hand_of, in_hand, point, read_to, tried, worth}
 unfoldable pub use Rattle.ac_automaton.specs.Reads.{led}
 pub use Rattle.ac_automaton.specs.Scans.{Grows, HasRead, IsAlive, IsAt, MayAdvance, NoMatchBetween, PassesNoMatch, Reaches, Scan, ScanText, ScannerView, ScansTo, Skips, SkipsTo, StopsAtDead, Work, WorkedTape, in_memory, most_looks, node, node_at, nothing_done, scan_of, scanner, search_of, search_through, tape_with, work_of}
 pub use Rattle.ac_automaton.specs.Sorted.{AreListed, AreSorted, IsHead, IsOrder, Keyed, Precedes, Sorted, byte_at, compared, compared_by_bytes, head_len, is_prefix, key_at, keyed, keyed_one, numbers}
 unfoldable pub use Rattle.ac_automaton.specs.Sorted.{head_of}
-pub use Rattle.ac_automaton.specs.Streams.{EndsNow, FailsToFill, FillsMore, GivesMatch, GivesNextMatch, GivesNone, GivesRead, GoesOnBy, HasGivenFirst, HasGivenLast, HasGivenSettled, HasSearchedAll, Inside, IsAllGiven, IsSearching, IsSettledIn, IsSettling, IsStreaming, KeepsGiven, MeetsEnd, ReadsThrough, SettlesBy, StandsPast, Streaming, Streams, initial_stream, kept_from, kept_len, matches_so_far, most_kept, stream_from, streaming_by}
+pub use Rattle.ac_automaton.specs.StreamInside.{Arrives, HasGivenFirst, HasSearchedAll, Inside, IsBuffered, IsSearching, IsStreaming, ReadsThrough, SettlesBy, StandsPast, most_kept, stream_from}
+pub use Rattle.ac_automaton.specs.Streams.{EndsNow, FailsToFill, FillsMore, GivesMatch, GivesNextMatch, GivesNone, GivesRead, GoesOnBy, HasGivenLast, HasGivenSettled, IsAllGiven, IsSettledIn, IsSettling, KeepsGiven, MeetsEnd, Streaming, Streams, initial_stream, kept_from, kept_len, matches_so_far, streaming_by}
 pub use Rattle.ac_automaton.specs.Tries.{AreAllStates, AreNodes, AreStates, ForNode, HasOwn, HasState, IsFailureOf, IsNumberOf, IsNumbered, IsOwn, IsRoot, IsRootEntry, IsTrie, IsTrieState, Links, NumbersNodes, Represents, TakesMatch, Trie, TrieView, all_matches, automaton_of, dead_state, fallback, leads_on, listed_within, meaning_of, stands-lists, state_at, state_patterns, transition_bytes, transition_target, transitions_of, trie_of}
 unfoldable pub use Rattle.ac_automaton.specs.Tries.{transition_bytes_of}
 pub use Rattle.ac_automaton.specs.declared.automaton.commits.ChainMatch.{ChainMatch}

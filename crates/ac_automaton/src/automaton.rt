@@ -18,6 +18,7 @@ use ac_util::primitives::PatternID;
 use ac_util::search::{Anchored, Input, Match, MatchKind};
 use std::alloc::Allocator;
 use std::io;
+use std::sync::Arc;
 use stream_replace::{ByClosure, ByTexts, replace_stream};
 
 mod commits;
@@ -29,6 +30,7 @@ mod listing;
 mod onward;
 mod overlap;
 mod overlap_iter;
+mod pieces;
 mod replace;
 mod scan;
 mod skip;
@@ -46,6 +48,7 @@ pub use find::{Finder, find_core};
 pub use listing::MatchRest;
 pub use overlap::OverlappingState;
 pub use overlap_iter::FindOverlappingIter;
+pub use pieces::PieceFinder;
 pub use replace::{Walk, replace_all, replace_all_bytes, replace_all_with, replace_all_with_bytes};
 pub use scan::is_due;
 pub use stream::StreamFinder;
@@ -175,10 +178,18 @@ pub trait Automaton {
     fn common(&self) -> &Common<Self::Memory>
         ensures { result.now ≡ common_of (seen self.now).built (seen self.now).wants_prefilter };
 
-    /// Returns the commits of the states, by which a leftmost walk reads on from match to match. See the example of
-    /// `common`.
-    fn commits(&self) -> &Commits<Self::Memory>
-        ensures { HasCommits (seen self.now) result.now };
+    /// Returns the commits of the states, by which a leftmost walk reads on from match to match, as searches share them that outlive a
+    /// borrow of the automaton.
+    fn shared_commits(&self) -> &Arc<Commits<Self::Memory>, Self::Memory>
+        ensures { HasCommits (seen self.now) result.now.value };
+
+    /// Returns the commits of the states.
+    #[inline]
+    final fn commits(&self) -> &Commits<Self::Memory>
+        ensures { HasCommits (seen self.now) result.now }
+    {
+        self.shared_commits().as_ref()
+    }
 
     /// Returns the match kind, which decides which of the occurrences in a span a search returns. See the example of
     /// `common`.

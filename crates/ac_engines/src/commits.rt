@@ -6,6 +6,7 @@ use ac_automaton::automaton::{Commit, Commits};
 use ac_automaton::nfa::noncontiguous::{ANCHORED_START, START};
 use ac_util::primitives::StateID;
 use std::alloc::{AllocError, Allocator};
+use std::sync::Arc;
 
 /// Returns the commits of a trie's states by the numbers that an engine has for these.
 ///
@@ -15,17 +16,18 @@ pub(crate) fn renumbered<A: Allocator + Clone>(
     alloc: A,
     commits: &Commits<A>,
     numbers: &[StateID],
-) -> Result<Commits<A>, AllocError>
-    ensures { IfOk result (AreRenumbered numbers.now commits.now) }
+) -> Result<Arc<Commits<A>, A>, AllocError>
+    ensures { IfOk result (λ shared. AreRenumbered numbers.now commits.now shared.value) }
 {
     let all = commits.all();
-    let mut list = Vec::new(alloc);
+    let mut list = Vec::new(alloc.clone()?);
     for index in 0..all.len() {
         if let Some(commit) = renumbered_one(all[index], numbers) {
             list.push(commit)?;
         }
     }
-    Ok(Commits::new(list, commits.chains().clone()?))
+    let chains = commits.chains().clone()?;
+    Ok(Arc::new(alloc, Commits::new(list, chains))?)
 }
 
 /// Returns a commit by these numbers, where the states that it names have some.

@@ -18,6 +18,7 @@ use std::fmt;
 use std::marker::Model;
 use std::mem::size_of;
 use std::ops::Range;
+use std::sync::Arc;
 
 mod builder;
 mod fill;
@@ -56,7 +57,7 @@ pub struct DFA<A: Allocator = Global> {
     table: Vec<StateID, A>,
     /// The match list of each row up to the last that has one.
     lists: Pieces<PatternID, A>,
-    commits: Commits<A>,
+    commits: Arc<Commits<A>, A>,
     /// The unanchored start, or the dead state where there is none.
     start: StateID,
     /// The anchored start, or the dead state where there is none.
@@ -86,7 +87,7 @@ impl<A: Allocator> Model for DFA<A> {
       among : HasMatchesAmong (dfa_of d.common d.start_kind d.classes d.stride2 d.table.items d.lists)
           d.first_match d.match_end;
       committed : HasCommits
-          (dfa_automaton (dfa_of d.common d.start_kind d.classes d.stride2 d.table.items d.lists)) d.commits;
+          (dfa_automaton (dfa_of d.common d.start_kind d.classes d.stride2 d.table.items d.lists)) d.commits.value;
     } };
 }
 
@@ -252,7 +253,7 @@ impl<A: Allocator> Automaton for DFA<A> {
     }
 
     #[inline]
-    fn commits(&self) -> &Commits<A> {
+    fn shared_commits(&self) -> &Arc<Commits<A>, A> {
         &self.commits
     }
 
@@ -260,7 +261,7 @@ impl<A: Allocator> Automaton for DFA<A> {
         let table = self.table.len().saturating_mul(size_of::<StateID>());
         table
             .saturating_add(self.lists.memory_usage())
-            .saturating_add(self.commits.memory_usage())
+            .saturating_add(self.commits.as_ref().memory_usage())
             .saturating_add(self.common.patterns().as_ref().memory_usage())
     }
 }

@@ -11,6 +11,8 @@ use Rattle.ac_search.specs.declared.ahocorasick.engine.EngineFindIter.{EngineFin
 use Rattle.ac_search.specs.declared.ahocorasick.engine.EngineFindIter.TheVariants.{Contiguous as ByContiguous, Dfa as ByDfa, Noncontiguous as ByNoncontiguous}
 use Rattle.ac_search.specs.declared.ahocorasick.engine.EngineFindOverlappingIter.{EngineFindOverlappingIter}
 use Rattle.ac_search.specs.declared.ahocorasick.engine.EngineFindOverlappingIter.TheVariants.{Contiguous as ListedByContiguous, Dfa as ListedByDfa, Noncontiguous as ListedByNoncontiguous}
+use Rattle.ac_search.specs.declared.ahocorasick.engine.EnginePieceFinder.{EnginePieceFinder}
+use Rattle.ac_search.specs.declared.ahocorasick.engine.EnginePieceFinder.TheVariants.{Contiguous as InPiecesByContiguous, Dfa as InPiecesByDfa, Noncontiguous as InPiecesByNoncontiguous}
 use Rattle.ac_search.specs.declared.ahocorasick.engine.EngineStreamFinder.{EngineStreamFinder}
 use Rattle.ac_search.specs.declared.ahocorasick.engine.EngineStreamFinder.TheVariants.{Contiguous as StreamedByContiguous, Dfa as StreamedByDfa, Noncontiguous as StreamedByNoncontiguous}
 use Rattle.ac_search.specs.Searchers.{AreLaidOut, Searcher, Settings, size_refusal, States, Contiguous as OfContiguous, Dfa as OfDfa, Noncontiguous as OfTrie}
@@ -75,6 +77,11 @@ abbrev pub listing_in : {Z : Type 0} → EngineFindOverlappingIter Z → Overlap
 listing_in (ListedByNoncontiguous items) = items
 listing_in (ListedByContiguous items) = items
 listing_in (ListedByDfa items) = items
+
+abbrev pub in_pieces : {Z : Type 0} → EnginePieceFinder Z → Streaming
+in_pieces (InPiecesByNoncontiguous finder) = finder
+in_pieces (InPiecesByContiguous finder) = finder
+in_pieces (InPiecesByDfa finder) = finder
 
 abbrev pub streaming_in : {Y Z : Type 0} → EngineStreamFinder Y Z → Streaming
 streaming_in (StreamedByNoncontiguous finder) = finder

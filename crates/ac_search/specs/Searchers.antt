@@ -12,6 +12,7 @@ use Rattle.ac_automaton.specs.Iterators.{Walking, initial_walk}
 use Rattle.ac_automaton.specs.Overlaps.{Overlapping, initial_listing, GivesNext, given_by}
 use Rattle.ac_search.specs.declared.ahocorasick.choice.AhoCorasickKind.{AhoCorasickKind}
 use Rattle.ac_search.specs.declared.ahocorasick.choice.AhoCorasickKind.TheVariants.{ContiguousNFA, DFA, NoncontiguousNFA}
+use Rattle.ac_automaton.specs.Pieces.{no_pieces}
 use Rattle.ac_automaton.specs.Streams.{StreamReading, Streaming, initial_stream}
 use Rattle.ac_automaton.specs.declared.automaton.overlap.OverlappingState.{OverlappingState}
 use Rattle.ac_automaton.specs.Prelude.{IsPlaced}
@@ -154,6 +155,10 @@ with_start built start = record built { start_kind = start }
 -- it is one of which nothing was read, for what the searcher was built from; but its engine may have more starts
 abbrev pub HasBegun : Built → Streaming → Type 0
 HasBegun built stream = (start : StartKind) × (stream ≡ initial_stream (with_start built start))
+
+-- the same of a text that comes in pieces
+abbrev pub HasBegunInPieces : Built → Streaming → Type 0
+HasBegunInPieces built text = (start : StartKind) × (text ≡ no_pieces (with_start built start))
 
 -- an iterator begins with one, over what its reader has left
 abbrev pub HasBegunOver : Built → Reading → StreamReading → Type 0

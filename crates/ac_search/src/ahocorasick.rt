@@ -17,6 +17,7 @@ mod choice;
 mod engine;
 mod find;
 mod overlap;
+mod pieces;
 mod replace;
 mod stream;
 mod stream_iter;
@@ -25,6 +26,7 @@ pub use builder::AhoCorasickBuilder;
 pub use choice::{AhoCorasickKind, choose_kind};
 pub use find::FindIter;
 pub use overlap::FindOverlappingIter;
+pub use pieces::PieceFinder;
 pub use stream::StreamFinder;
 pub use stream_iter::StreamFindIter;
 

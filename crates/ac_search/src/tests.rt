@@ -12,6 +12,7 @@ mod choice;
 mod devices;
 mod engines;
 mod listings;
+mod pieces;
 mod refusals;
 mod replace;
 mod rows;

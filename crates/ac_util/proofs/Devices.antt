@@ -1,6 +1,6 @@
 -- Reading on, and writing on.
 use Rattle.ac_util.proofs.Prelude.{◌≡◌, ◌≢◌, ◌+◌, ◌<◌, ℕ, zero, suc, List, [], ◌∷◌, ◌++◌, length, take, drop, ap, refl, arith, Bool, Option, slice_range, rules, nat_tests, length-take-le, take-add, common_steps}
-use Rattle.ac_util.specs.Prelude.{Writing, WritesAll, FailsToRead, idle, Reading, ReadsAll, ReadsSome, StreamError}
+use Rattle.ac_util.specs.Prelude.{Writing, WritesAll, FailsToRead, blank, idle, Reading, ReadsAll, ReadsSome, StreamError}
 use Rattle.std.specs.Io.{StartsWith}
 use Rattle.std.specs.Io.KnownBytes.{Appends}
 use Rattle.std.proofs.KnownBytes.{Appends-trans}
@@ -23,6 +23,10 @@ take-short at bytes less = let l = length-take-le at bytes (omega arith) in omeg
 -- a write that took something wasn't idle
 pub not-idle : (n room : ℕ) → n ≢ 0 → idle n room ≡ 0
 not-idle n room some = grind (arith, nat_tests)
+
+-- a call that has room isn't blank
+pub not-blank : (room : ℕ) → room ≢ 0 → blank room ≡ 0
+not-blank room some = grind (arith, nat_tests)
 
 -- what is left of the bytes from a place on
 pub rest-range : (at : ℕ) (bytes : List ℕ) → slice_range bytes at (length bytes) ≡ drop at bytes

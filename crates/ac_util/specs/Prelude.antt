@@ -3,7 +3,7 @@ pub use Rattle.ac_util.specs.Built.{AreTexts, Built, Call, Find, IsBetweenCharac
 pub use Rattle.ac_util.specs.Classes.{AreClasses, IsLawful, SetsApart, alphabet_len, class_at, is_in_patterns, stride}
 unfoldable pub use Rattle.ac_util.specs.Classes.{class_of, classes_of, singletons, stride2}
 pub use Rattle.ac_util.specs.Commits.{Anything, Commits, IsPickIn, IsSearchFor, NodeCommits, Nothing, Prefixes, Stands, StandsAfter, end_after, standing_at}
-pub use Rattle.ac_util.specs.Device.{Reading, ReadsAll, ReadsSome, Took, WritesAll, WritesBeginning, WritesUntilFailure, Writing, idle}
+pub use Rattle.ac_util.specs.Device.{Reading, ReadsAll, ReadsSome, Took, WritesAll, WritesBeginning, WritesUntilFailure, Writing, blank, idle}
 pub use Rattle.ac_util.specs.Input.{InputView, whole_input}
 pub use Rattle.ac_util.specs.Listing.{IsBefore, item_at, place_after, places, places_at, places_ending_at, up_to}
 unfoldable pub use Rattle.ac_util.specs.Listing.{all}

@@ -14,7 +14,8 @@ use std::io;
 /// A reader of bytes. `FromRead` makes one of any `Read`, and `Bytes` one of a slice.
 ///
 /// Contracts see the bytes that it has left, where it reports them, how often a call failed, the error of the last one
-/// that did, and how often one gave no byte though there was room. These counts only rise, and have no greatest number.
+/// that did, how often one gave no byte though there was room, and how often there was no room. These counts only rise, and
+/// have no greatest number. No function of this library reads into an empty slice.
 ///
 /// A read that gives no byte, though there was room, is taken for the end by whoever reads. Where `empty_means_end` is
 /// true, the bytes that the reader reports are at their end then too; else it may have more to give later.
@@ -34,7 +35,8 @@ pub trait Source {
 /// A writer of bytes. `IntoWrite` makes one of any `Write`, and `Written` collects them in memory.
 ///
 /// Contracts see the bytes that were written to it, where it reports them, how often a call failed, the error of the last
-/// one that did, and how often one took no byte of a piece that isn't empty.
+/// one that did, how often one took no byte of a piece that isn't empty, and how often a piece was empty. No function of this
+/// library writes an empty piece.
 pub trait Sink {
     ghost told: { Self → Writing };
 

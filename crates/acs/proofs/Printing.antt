@@ -34,6 +34,7 @@ printing-begins all old = record {
   written = refl;
   failed = refl;
   idles = refl;
+  blanks = refl;
   outcome_is = refl;
 }
 
@@ -85,6 +86,7 @@ module _ (all rest : List Occurrence) (old new : Writing) (text : List ℕ) (out
               let c = length-append h.out part in
               let d = f.some.left_out in omega arith);
           moved = Appends-trans old.written new.written later.written h.out part h.moved f.some.moved;
+          blanks = f.some.blanks ∙ h.blanks;
         };
         cause = elim f.cause [
           | inl io ↦ inl (io.0, (let l = io.1 in let m = h.failed in omega arith), io.2 ∙ h.idles)

@@ -16,6 +16,7 @@ reads-more {ends} {first} {before} {after} {bytes} {into} {n} some reads took =
       moved = Consumes-trans first.left before.left after.left bytes (take n into) reads.moved took.moved;
       failed = took.failed ∙ reads.failed;
       empties = (let count = took.empties in let so_far = reads.empties in grind (arith, nat_tests));
+      blanks = (let count = took.blanks in let so_far = reads.blanks in let room = took.within in grind (arith, nat_tests));
     }
 
 -- some bytes came, and after them a read has failed, or brought more than usize counts

@@ -58,6 +58,7 @@ printing-among n all rest m h more = record {
   written = h.written;
   failed = h.failed;
   idles = h.idles;
+  blanks = h.blanks;
   outcome_is = h.outcome_is;
 }
   where
@@ -75,6 +76,7 @@ printing-given n all h = record {
   written = h.written;
   failed = h.failed;
   idles = h.idles;
+  blanks = h.blanks;
   outcome_is = h.outcome_is;
 }
 

@@ -25,11 +25,12 @@ mode_refusal Stream built = stream_refusal built
 mode_refusal StreamReplace built = stream_refusal built
 mode_refusal mode built = None
 
--- a read has failed, or memory was refused and no read has; each read before took something
+-- a read has failed, or memory was refused and no read has; each read before took something, and each had room
 pub record FailsToReadAll (old new : Reading) (fault : Fault) : Type 0 where
   pub bytes : List ℕ
   pub moved : Consumes old.left new.left bytes
   pub empties : new.empties ≡ old.empties
+  pub blanks : new.blanks ≡ old.blanks
   pub cause : ((fault ≡ Io) × (new.failed ≡ old.failed + 1)) ⊎ ((fault ≡ Memory) × (new.failed ≡ old.failed))
 
 -- a beginning of the bytes was written, and then a write has failed or took nothing

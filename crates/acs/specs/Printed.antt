@@ -40,6 +40,7 @@ pub record IsPrinting (all rest : List Occurrence) (old new : Writing) (text : L
   pub written : out ++ text ≡ lines done
   pub failed : new.failed ≡ old.failed
   pub idles : new.idles ≡ old.idles
+  pub blanks : new.blanks ≡ old.blanks
   pub outcome_is : outcome ≡ outcome_of done
 
 -- whichever matches come before and after m, its line is printed too; or a write or memory has failed

@@ -5,7 +5,8 @@ ghost use Rattle.ac_automaton.specs.Answers.{BeginsStream};
 ghost use Rattle.ac_automaton.specs.Automata.{IsLiveState, IsState};
 ghost use Rattle.ac_automaton.specs.Commits.{AreCommits, reads_on};
 ghost use Rattle.ac_automaton.specs.declared.automaton.stream_settled.Phase.TheVariants.{Ended, Failed, Open};
-ghost use Rattle.ac_automaton.specs.Streams.{Fills, GivesRead, IsAllGiven, GivesSettled, ReadsThrough, Streams, kept_len, initial_stream, on, HasGivenLast, GivesMatch};
+ghost use Rattle.ac_automaton.specs.StreamInside.{GivesSettled, ReadsThrough};
+ghost use Rattle.ac_automaton.specs.Streams.{Fills, GivesRead, IsAllGiven, Streams, kept_len, initial_stream, on, HasGivenLast, GivesMatch};
 
 use super::Automaton;
 use super::onward::{ChainRest, Core, Given, byte_of, chain_rest, match_ending, take_next};
@@ -61,7 +62,8 @@ pub struct StreamFinder<'a, A: Automaton, Z: Allocator> {
 
 impl<'a, A: Automaton, Z: Allocator> Model for StreamFinder<'a, A, Z> {
     ghost use Rattle.std.specs.Prelude.{length};
-    ghost use Rattle.ac_automaton.specs.Streams.{IsSearching, Streaming, streaming_by};
+    ghost use Rattle.ac_automaton.specs.StreamInside.{IsSearching};
+    ghost use Rattle.ac_automaton.specs.Streams.{Streaming, streaming_by};
 
     ghost Value = { Streaming };
 
@@ -345,7 +347,7 @@ impl<'a, A: Automaton> Core<'a, A> {
     ghost use Rattle.ac_automaton.specs.Cores.{IsCore, scan_by};
 
     /// Reads on in some bytes up to their end, or as far as `Scanner::read` does.
-    fn read_through(&self, bytes: &[u8], cursor: &mut Cursor) -> Option<u8>
+    pub(super) fn read_through(&self, bytes: &[u8], cursor: &mut Cursor) -> Option<u8>
         requires alive { IsLiveState ((A.seen self.now.automaton.now).stands No) cursor.old.state }
         ensures { ReadsThrough (scan_by A.seen self.now) bytes.now cursor.old cursor.new result }
     {
@@ -360,7 +362,12 @@ impl<'a, A: Automaton> Core<'a, A> {
 
     /// Returns what is given that leaves a state, if that is settled: where the search stops at a match, a byte was read that
     /// leads to the dead state, or the stream has ended.
-    fn given_settled(&self, state: StateID, byte: Option<u8>, phase: Phase) -> Option<Given>
+    pub(super) fn given_settled(
+        &self,
+        state: StateID,
+        byte: Option<u8>,
+        phase: Phase,
+    ) -> Option<Given>
         requires core { IsCore (A.seen self.now.automaton.now) self.now.commits.now self.now.start self.now.stops }
         requires state { IsState ((A.seen self.now.automaton.now).stands No) state }
         ensures { GivesSettled A.seen self.now state (byte, phase) result }

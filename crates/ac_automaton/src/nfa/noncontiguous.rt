@@ -17,6 +17,7 @@ use std::alloc::{AllocError, Allocator, Global};
 use std::fmt;
 use std::marker::Model;
 use std::mem::size_of;
+use std::sync::Arc;
 
 mod builder;
 mod commits;
@@ -47,7 +48,7 @@ pub struct NFA<A: Allocator = Global> {
     lists: TrieLists<A>,
     /// Where an unanchored search goes on from the start, for each byte.
     root: Vec<StateID, A>,
-    commits: Commits<A>,
+    commits: Arc<Commits<A>, A>,
 }
 
 impl<A: Allocator> Model for NFA<A> {
@@ -65,7 +66,7 @@ impl<A: Allocator> Model for NFA<A> {
           (trie_of n.common n.lists.order.items n.lists.transitions.items n.lists.states.items) nodes;
       rooted : IsRoot n.lists.transitions.items n.lists.states.items n.root.items;
       committed : HasCommits (automaton_of (trie_of n.common n.lists.order.items n.lists.transitions.items
-          n.lists.states.items)) n.commits;
+          n.lists.states.items)) n.commits.value;
     } };
 }
 
@@ -231,7 +232,7 @@ impl<A: Allocator> Automaton for NFA<A> {
     }
 
     #[inline]
-    fn commits(&self) -> &Commits<A> {
+    fn shared_commits(&self) -> &Arc<Commits<A>, A> {
         &self.commits
     }
 
@@ -248,7 +249,7 @@ impl<A: Allocator> Automaton for NFA<A> {
             .saturating_add(transitions)
             .saturating_add(order)
             .saturating_add(root)
-            .saturating_add(self.commits.memory_usage())
+            .saturating_add(self.commits.as_ref().memory_usage())
             .saturating_add(self.patterns().memory_usage())
     }
 }

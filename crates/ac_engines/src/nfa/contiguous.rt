@@ -20,6 +20,7 @@ use std::alloc::{AllocError, Allocator, Global};
 use std::fmt;
 use std::marker::Model;
 use std::mem::size_of;
+use std::sync::Arc;
 use step::follow;
 
 mod builder;
@@ -54,7 +55,7 @@ pub struct NFA<A: Allocator = Global> {
     /// States of strings shorter than this are dense.
     dense_depth: usize,
     words: Vec<u32, A>,
-    commits: Commits<A>,
+    commits: Arc<Commits<A>, A>,
     start: StateID,
     anchored_start: StateID,
     /// No state with this number or a greater one has matches.
@@ -74,7 +75,7 @@ impl<A: Allocator> Model for NFA<A> {
       is_contiguous : (at : Places) × IsContiguous (contiguous_of n.common n.dense_depth n.classes n.words.items n.start
           n.anchored_start n.match_end) at;
       committed : HasCommits (contiguous_automaton (contiguous_of n.common n.dense_depth n.classes n.words.items n.start
-          n.anchored_start n.match_end)) n.commits;
+          n.anchored_start n.match_end)) n.commits.value;
     } };
 }
 
@@ -227,14 +228,14 @@ impl<A: Allocator> Automaton for NFA<A> {
     }
 
     #[inline]
-    fn commits(&self) -> &Commits<A> {
+    fn shared_commits(&self) -> &Arc<Commits<A>, A> {
         &self.commits
     }
 
     fn memory_usage(&self) -> usize {
         let words = self.words.len().saturating_mul(size_of::<u32>());
         words
-            .saturating_add(self.commits.memory_usage())
+            .saturating_add(self.commits.as_ref().memory_usage())
             .saturating_add(self.common.patterns().as_ref().memory_usage())
     }
 }

@@ -1,8 +1,9 @@
 //! The engines of a searcher and their iterators.
 ghost use Rattle.std.specs.Prelude.{◌≡◌, IfOk};
-ghost use Rattle.ac_automaton.specs.Prelude.{common_of, GivesRead, GoesOn, kept_len, ListsNext, Streams};
-ghost use Rattle.ac_search.specs.Engines.{built_of, wants_prefilter_of, listing_in, name_of, states_of, streaming_in, walking_in};
+ghost use Rattle.ac_automaton.specs.Prelude.{common_of, GivesRead, GoesOn, kept_len, ListsNext, Streams, TakesOn};
+ghost use Rattle.ac_search.specs.Engines.{built_of, wants_prefilter_of, in_pieces, listing_in, name_of, states_of, streaming_in, walking_in};
 ghost use Rattle.ac_automaton.specs.Streams.{on};
+ghost use Rattle.ac_automaton.specs.declared.automaton.stream_settled.Phase.TheVariants.{Ended};
 
 use super::choice::AhoCorasickKind;
 use ac_automaton::automaton::{self, Automaton, Common};
@@ -157,6 +158,38 @@ impl<'a, A: Allocator, Z: Allocator> EngineStreamFinder<'a, A, Z> {
         ensures { result ≡ (streaming_in self.now).buffer }
     {
         by_engine!(EngineStreamFinder, self, finder => finder.buffer_len())
+    }
+}
+
+/// An engine's search of a text that comes in pieces.
+#[derive(Drop)]
+pub(super) enum EnginePieceFinder<A: Allocator> {
+    Noncontiguous(automaton::PieceFinder<noncontiguous::NFA<A>, A>),
+    Contiguous(automaton::PieceFinder<contiguous::NFA<A>, A>),
+    Dfa(automaton::PieceFinder<dfa::DFA<A>, A>),
+}
+
+impl<A: Allocator> EnginePieceFinder<A> {
+    /// Returns the next match, and takes of the piece what that needs.
+    #[inline]
+    pub(super) fn next(&mut self, piece: &mut &[u8]) -> Option<Match>
+        ensures { TakesOn (in_pieces self.old) piece.old.now result (in_pieces self.new) piece.new.now }
+    {
+        by_engine!(EnginePieceFinder, self, finder => finder.next(piece))
+    }
+
+    /// Says that nothing follows.
+    pub(super) fn end(&mut self)
+        ensures { in_pieces self.new ≡ record (in_pieces self.old) { phase = Ended } }
+    {
+        by_engine!(EnginePieceFinder, self, finder => finder.end())
+    }
+
+    /// Returns up to which offset the text is settled.
+    pub(super) fn settled(&self) -> usize
+        ensures { result ≡ (in_pieces self.now).kept }
+    {
+        by_engine!(EnginePieceFinder, self, finder => finder.settled())
     }
 }
 

@@ -29,7 +29,7 @@ impl<'a> Model for Pieces<'a> {
 
     ghost Value = { Reading };
 
-    ghost view = { λ p. record { left = None; failed = p.misses.failed; error = p.misses.error; empties = p.misses.idles } };
+    ghost view = { λ p. record { left = None; failed = p.misses.failed; error = p.misses.error; empties = p.misses.idles; blanks = p.misses.blanks } };
 }
 
 impl<'a> Pieces<'a> {
@@ -66,7 +66,7 @@ impl<'a> Source for Pieces<'a> {
         let stops = self.good == 0;
         self.good = if stops { ALWAYS } else { self.good - 1 };
         if let (true, Some(kind)) = (stops, self.stop) {
-            return Err(self.misses.fail(io::Error::from(kind)));
+            return Err(self.misses.fail(io::Error::from(kind), into.len()));
         }
         let most = if stops { 0 } else { self.most };
         let left = self.left;
@@ -93,7 +93,7 @@ impl<'a> Model for Few<'a> {
 
     ghost Value = { Writing };
 
-    ghost view = { λ w. record { written = None; failed = w.misses.failed; error = w.misses.error; idles = w.misses.idles } };
+    ghost view = { λ w. record { written = None; failed = w.misses.failed; error = w.misses.error; idles = w.misses.idles; blanks = w.misses.blanks } };
 }
 
 impl<'a> Few<'a> {
@@ -114,7 +114,7 @@ impl<'a> Sink for Few<'a> {
         let n = self.most.min(piece.len());
         let n = self.room.write(&piece[..n])?;
         if n == 0 && self.fails {
-            return Err(self.misses.fail(io::Error::from(WRITE)));
+            return Err(self.misses.fail(io::Error::from(WRITE), piece.len()));
         }
         self.misses.record(n, piece.len());
         Ok(n)

@@ -70,7 +70,7 @@ fn compare_walk<'a>(
 }
 
 /// Patterns, match kinds, and streams.
-type Walks = (
+pub(super) type Walks = (
     &'static [&'static [u8]],
     &'static [MatchKind],
     &'static [Walk<'static>],

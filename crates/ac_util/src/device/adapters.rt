@@ -26,7 +26,7 @@ impl<R: Read + Drop> Model for FromRead<R> {
 
     ghost Value = { Reading };
 
-    ghost view = { λ b. record { left = R.remaining b.known.value; failed = b.misses.failed; error = b.misses.error; empties = b.misses.idles } };
+    ghost view = { λ b. record { left = R.remaining b.known.value; failed = b.misses.failed; error = b.misses.error; empties = b.misses.idles; blanks = b.misses.blanks } };
 
     ghost invariant = { λ b. Keeps (R.remaining b.known.value) (R.remaining b.inner) };
 }
@@ -34,7 +34,7 @@ impl<R: Read + Drop> Model for FromRead<R> {
 impl<R: Read + Drop> FromRead<R> {
     /// Returns a reader over `inner`.
     pub fn new(inner: R) -> FromRead<R>
-        ensures { result ≡ record { left = R.remaining inner; failed = 0; error = None; empties = 0 } }
+        ensures { result ≡ record { left = R.remaining inner; failed = 0; error = None; empties = 0; blanks = 0 } }
     {
         let known = Remembered::of(&inner);
         FromRead {
@@ -58,7 +58,7 @@ impl<R: Read + Drop> Source for FromRead<R> {
                 self.misses.record(n, into.len());
                 Ok(n)
             }
-            Err(e) => Err(self.misses.fail(e)),
+            Err(e) => Err(self.misses.fail(e, into.len())),
         }
     }
 }
@@ -81,7 +81,7 @@ impl<W: Write + Drop> Model for IntoWrite<W> {
 
     ghost Value = { Writing };
 
-    ghost view = { λ w. record { written = W.contents w.known.value; failed = w.misses.failed; error = w.misses.error; idles = w.misses.idles } };
+    ghost view = { λ w. record { written = W.contents w.known.value; failed = w.misses.failed; error = w.misses.error; idles = w.misses.idles; blanks = w.misses.blanks } };
 
     ghost invariant = { λ w. Keeps (W.contents w.known.value) (W.contents w.inner) };
 }
@@ -89,7 +89,7 @@ impl<W: Write + Drop> Model for IntoWrite<W> {
 impl<W: Write + Drop> IntoWrite<W> {
     /// Returns a writer over `inner`.
     pub fn new(inner: W) -> IntoWrite<W>
-        ensures { result ≡ record { written = W.contents inner; failed = 0; error = None; idles = 0 } }
+        ensures { result ≡ record { written = W.contents inner; failed = 0; error = None; idles = 0; blanks = 0 } }
     {
         let known = Remembered::of(&inner);
         IntoWrite {
@@ -110,7 +110,7 @@ impl<W: Write + Drop> Sink for IntoWrite<W> {
                 self.misses.record(n, piece.len());
                 Ok(n)
             }
-            Err(e) => Err(self.misses.fail(e)),
+            Err(e) => Err(self.misses.fail(e, piece.len())),
         }
     }
 }

@@ -24,13 +24,13 @@ impl<'a> Model for Bytes<'a> {
 
     ghost Value = { Reading };
 
-    ghost view = { λ b. record { left = Some b.left.now; failed = b.misses.failed; error = b.misses.error; empties = b.misses.idles } };
+    ghost view = { λ b. record { left = Some b.left.now; failed = b.misses.failed; error = b.misses.error; empties = b.misses.idles; blanks = b.misses.blanks } };
 }
 
 impl<'a> Bytes<'a> {
     /// Returns a reader of these bytes.
     pub fn new(bytes: &'a [u8]) -> Bytes<'a>
-        ensures { result ≡ record { left = Some bytes.now; failed = 0; error = None; empties = 0 } }
+        ensures { result ≡ record { left = Some bytes.now; failed = 0; error = None; empties = 0; blanks = 0 } }
     {
         Bytes {
             left: bytes,
@@ -68,13 +68,13 @@ impl<A: Allocator> Model for Written<A> {
 
     ghost Value = { Writing };
 
-    ghost view = { λ w. record { written = Some w.bytes.items; failed = w.misses.failed; error = w.misses.error; idles = w.misses.idles } };
+    ghost view = { λ w. record { written = Some w.bytes.items; failed = w.misses.failed; error = w.misses.error; idles = w.misses.idles; blanks = w.misses.blanks } };
 }
 
 impl<A: Allocator> Written<A> {
     /// Returns a writer that holds nothing yet. It takes no memory.
     pub fn new(alloc: A) -> Written<A>
-        ensures { result ≡ record { written = Some []; failed = 0; error = None; idles = 0 } }
+        ensures { result ≡ record { written = Some []; failed = 0; error = None; idles = 0; blanks = 0 } }
     {
         Written {
             bytes: Vec::new(alloc),
@@ -100,8 +100,11 @@ impl<A: Allocator> Sink for Written<A> {
         ensures refused { IfErr result (λ e. error_kind e ≡ OutOfMemory) }
     {
         match self.bytes.extend_from_slice(piece) {
-            Ok(()) => Ok(piece.len()),
-            Err(e) => Err(self.misses.fail(e.into())),
+            Ok(()) => {
+                self.misses.record(piece.len(), piece.len());
+                Ok(piece.len())
+            }
+            Err(e) => Err(self.misses.fail(e.into(), piece.len())),
         }
     }
 }

@@ -53,6 +53,22 @@ fn stream_finders(rt: HostRuntime) -> Result<(), Fail> {
 }
 
 #[test]
+fn texts_come_in_pieces(rt: HostRuntime) -> Result<(), Fail> {
+    let alloc = rt.alloc();
+    let searcher = AhoCorasick::new(alloc, &[b"append", b"app"])?;
+    let mut finder = searcher.try_piece_finder()?;
+    let mut piece = b"append the ap".as_slice();
+    are_equal!(rt; finder.next(&mut piece), Some(Match::must(1, 0..3)));
+    are_equal!(rt; piece, b"end the ap".as_slice()); // it is handed over again
+    are_equal!(rt; finder.next(&mut piece), None); // "ap" may begin a match
+    let mut piece = b"p".as_slice();
+    are_equal!(rt; finder.next(&mut piece), Some(Match::must(1, 11..14)));
+    finder.end();
+    are_equal!(rt; (finder.next(&mut piece), finder.settled()), (None, 14));
+    Ok(())
+}
+
+#[test]
 fn streams_are_exchanged_by_closures(rt: HostRuntime) -> Result<(), Fail> {
     let alloc = rt.alloc();
     let searcher = AhoCorasick::new(alloc, &[b"fox", b"brown", b"quick"])?;

@@ -7,8 +7,8 @@ use ac_search::{
     AhoCorasick, AhoCorasickBuilder, AhoCorasickKind, Anchored, BuildError, ByteClasses, Bytes,
     Candidate, FindIter, FindOverlappingIter, Finder, FirstBytes, FromRead, Input, IntoWrite,
     Looks, Match, MatchError, MatchKind, MatchRest, Needle, OverlappingState, PatternID, Patterns,
-    Phase, Prefilter, ReplaceError, Span, StartKind, StateID, StreamError, StreamFindIter,
-    StreamFinder, Tally, Tape, TooLarge, WriteError, Written, dfa,
+    Phase, PieceFinder, Prefilter, ReplaceError, Span, StartKind, StateID, StreamError,
+    StreamFindIter, StreamFinder, Tally, Tape, TooLarge, WriteError, Written, dfa,
 };
 use std::alloc::{Allocator, Global};
 use std::io::{Read, Write};
@@ -55,6 +55,7 @@ fn walks_and_listings_cross_threads() {
 fn streams_cross_threads() {
     crosses::<StreamFinder<'_>>();
     crosses::<StreamFindIter<'_, Bytes<'_>>>();
+    crosses::<PieceFinder>();
 }
 
 #[test]

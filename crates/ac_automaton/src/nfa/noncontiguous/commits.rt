@@ -18,6 +18,7 @@ use ac_util::looks::Looks;
 use ac_util::primitives::{PatternID, StateID};
 use ac_util::search::Anchored;
 use std::alloc::{AllocError, Allocator};
+use std::sync::Arc;
 
 /// The states of an automaton, and the commits that were made of its states so far.
 #[derive(Drop)]
@@ -182,15 +183,16 @@ impl<'a, A: Allocator> Making<'a, A> {
 pub(super) fn commits_of<A: Allocator + Clone>(
     common: &Common<A>,
     lists: &TrieLists<A>,
-) -> Result<Commits<A>, AllocError>
+) -> Result<Arc<Commits<A>, A>, AllocError>
     requires is_trie { (nodes : List Node) × IsTrie (trie_by common.now (lists_by lists.now)) nodes }
-    ensures { IfOk result (HasCommits (automaton_of (trie_by common.now (lists_by lists.now)))) }
+    ensures { IfOk result (λ shared. HasCommits (automaton_of (trie_by common.now (lists_by lists.now))) shared.value) }
 {
     let mut making = Making::new(lists)?;
     if reads_on(common) {
         making.add_all()?;
     }
-    Ok(Commits::new(making.commits, making.chains))
+    let alloc = common.patterns().as_ref().allocator().clone()?;
+    Ok(Arc::new(alloc, Commits::new(making.commits, making.chains))?)
 }
 
 /// Returns whether walks read on from match to match.

@@ -10,6 +10,7 @@ invariant-loop-at g l =
       moved : Appends (told l.fn.writer).written (told l.writer).written (take l.at l.bytes);
       failed : (told l.writer).failed ≡ (told l.fn.writer).failed;
       idles : (told l.writer).idles ≡ (told l.fn.writer).idles;
+      blanks : (told l.writer).blanks ≡ (told l.fn.writer).blanks;
     }
 
 abbrev pub decreases-loop-at : goal.decreases-loop-at

@@ -1,8 +1,8 @@
-use Rattle.ac_util.proofs.Prelude.{◌≡◌, ◌∙◌, ◌+◌, ◌-◌, ◌≤◌, ◌≢◌, ◌++◌, ℕ, List, length, length-append, length-drop, take, drop, sym, ap, subst, arith, length-take-le}
+use Rattle.ac_util.proofs.Prelude.{◌≡◌, ◌∙◌, ◌+◌, ◌-◌, ◌≤◌, ◌≢◌, ◌++◌, ℕ, List, length, length-append, length-drop, take, drop, sym, ap, subst, arith, length-take-le, refl}
 use Rattle.ac_automaton.specs.Prelude.{buffer_len, stream_result, Streaming, matches_so_far, Failed, Open}
-use Rattle.ac_util.proofs.Devices.{not-idle}
+use Rattle.ac_util.proofs.Devices.{not-blank, not-idle}
 use Rattle.ac_automaton.proofs.Places.{written-whole}
-use Rattle.ac_automaton.proofs.StreamFilling.{closed-as, filled-as, given-stays, streams-filled}
+use Rattle.ac_automaton.proofs.StreamFilling.{buffer-open, closed-as, filled-as, given-stays, streams-filled}
 use Rattle.ac_automaton.proofs.automaton.stream.StreamFinder.fill.Given.{Over}
 use Rattle.ac_automaton.proofs.automaton.stream.StreamFinder.fill.Goals.{After-read_after}
 use Rattle.ac_automaton.proofs.automaton.stream.StreamFinder.fill.Goals as goal
@@ -44,6 +44,7 @@ invariant_of-self-then-self-n g c =
           ∙ ap (λ (w : List ℕ). c.self.inside.history.bytes ++ w)
           (ap (λ (k : ℕ). take k (drop at c.deref.result.now)) (let e : at + n - at ≡ n = omega arith in e)
           ∙ ap (λ (b : List ℕ). take n (drop at b)) (c.deref.ensures.value ∙ whole g d)));
+      buffered = buffer-open (as_long g d) refl refl (opens g d) c.self.invariant.buffered;
     }
 
 pub returns-in-Ok : goal.returns-in-Ok
@@ -67,12 +68,14 @@ returns-in-Ok g c =
       some = omega arith;
       room = (let w = took.within in let cut = length-drop at c.read_after.new.buffer in
           let same = as_long g d in let is = ap (length {A = ℕ}) (whole g d) in
-          let size' = c.self.invariant.streams.long ∙ ap (λ (v : Streaming). buffer_len v.built.patterns) e in omega arith);
+          let size' = c.self.invariant.buffered.long ∙ ap (λ (v : Streaming). buffer_len v.built.patterns) e in omega arith);
       reads = record {
         moved = took.moved;
         failed = took.failed;
         empties = (let e = took.empties in let i = not-idle n (length into)
             (λ e. absurd (omega (arith, c.in-Ok.n-test))) in omega arith);
+        blanks = (let e = took.blanks in let i = not-blank (length into) (let w = took.within in
+            λ none. absurd (omega (arith, c.in-Ok.n-test))) in omega arith);
       };
       same = filled-as c.args.self.now c.make_room.new.self _ c.self.view_is c.make_room.ensures.same _
           (as_long g d) _ more added;
@@ -105,6 +108,8 @@ returns-in-Ok-2 g c =
         failed = took.failed;
         empties = (let e = took.empties in let i = not-idle n (length into)
             (λ e. absurd (omega (arith, c.in-Ok.n-test))) in omega arith);
+        blanks = (let e = took.blanks in let i = not-blank (length into) (let w = took.within in
+            λ none. absurd (omega (arith, c.in-Ok.n-test))) in omega arith);
       };
       same = closed-as c.args.self.now c.make_room.new.self _ c.self.view_is c.make_room.ensures.same _
           (as_long g (goal.at.returns-in-Ok-2 g c).After-read_after) Failed c.close-in-Ok-2.ensures;

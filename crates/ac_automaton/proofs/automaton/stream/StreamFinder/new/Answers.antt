@@ -1,7 +1,7 @@
-use Rattle.ac_util.proofs.Prelude.{◌≡◌, ◌≢◌, ◌∙◌, true, refl, length, sym, ap, arith, not, rules, common_steps}
-use Rattle.ac_automaton.specs.Prelude.{buffer_len, is_leftmost, LeftmostFirst, LeftmostLongest, MatchKind, Standard}
+use Rattle.ac_util.proofs.Prelude.{◌≡◌, ◌∙◌, true, refl, length, sym, ap, arith, not, rules, common_steps}
+use Rattle.ac_automaton.specs.Prelude.{buffer_len, is_leftmost, MatchKind}
 use Rattle.ac_automaton.proofs.Places.{refused-by}
-use Rattle.ac_automaton.proofs.StreamBegins.{most-kept, streams-begin}
+use Rattle.ac_automaton.proofs.StreamBegins.{buffer-begins, most-kept, not-leftmost, streams-begin}
 use Rattle.ac_automaton.proofs.StreamRefusals.{not-refused, refused-empty}
 use Rattle.ac_automaton.proofs.automaton.stream.StreamFinder.new.Given.{Over}
 use Rattle.ac_automaton.proofs.automaton.stream.StreamFinder.new.Goals.{After-empty, in-Standard, in_default}
@@ -12,12 +12,6 @@ returns-then-min_pattern_len-eq0 g c = search (rules, refused-empty)
 
 pub returns-in_err-resize : goal.returns-in_err-resize
 returns-in_err-resize g c = search (rules, not-refused, refused-by)
-
--- the first match found is given under Standard alone
-not-leftmost : (kind : MatchKind) → kind ≢ Standard → is_leftmost kind ≡ true
-not-leftmost Standard other = absurd (other refl)
-not-leftmost LeftmostFirst other = refl
-not-leftmost LeftmostLongest other = refl
 
 -- the buffer is as long as it should be
 long : (g : Over) (c : After-empty g)
@@ -38,10 +32,10 @@ invariant_of-result g c =
     ] in
     record {
       commits = c.commits.ensures;
-      streams = streams-begin _ _ _ allowed c.in_ok-start.start c.in_ok-start.ensures.1 _ (long g c)
-          (let ok = c.resize.new.self.ok in let small = c.resize.new.self.small in omega arith) _ _ _ _ _ stops
+      streams = streams-begin _ _ _ allowed c.in_ok-start.start c.in_ok-start.ensures.1 _ _ _ _ _ _ stops
           (c.most_kept.ensures ∙ most-kept (g.A.Automaton.seen c.args.automaton.now).built _ _ stops c.max_pattern_len-longest.ensures)
           c.of.ensures c.zero.ensures c.empty.ensures;
+      buffered = buffer-begins (long g c) (let ok = c.resize.new.self.ok in let small = c.resize.new.self.small in omega arith) refl refl;
     }
 
 pub returns : goal.returns

@@ -1,5 +1,6 @@
 use Rattle.ac_util.proofs.Prelude.{◌≡◌, ◌≢◌, ◌∙◌, List, [], length, Some, refl, take, ap, sym, subst, false≢true, length-take-le}
 use Rattle.ac_automaton.specs.Prelude.{No, Node, AutomatonView, Failed, Inside, IsStreaming, matches_of, Streaming, streaming_by, pending, TakesFrom, ChainMatch, ChainRest}
+use Rattle.ac_automaton.proofs.StreamFilling.{buffer-same}
 use Rattle.ac_automaton.proofs.StreamKnown.{gives-known, may-take-known, streams-known}
 use Rattle.ac_automaton.proofs.StreamNext.{core-is, holds-so, settles-so}
 use Rattle.ac_automaton.proofs.StreamReads.{gives-given, gives-nothing, HoldsBack, IsReadOn, Settles, streams-given, streams-nothing}
@@ -64,6 +65,7 @@ invariant_of-self g c =
       streams = streams-known (a g d) (inv g d) (unfailed g d) c.in-Some.found c.take_next.new.rest
           (takes g (goal.at.invariant_of-self g c).In-Some) c.of-self-inside.result.value c.end-self-inside.result
           c.after-self-inside.result.number (c.of-self-inside.ensures ∙ c.end.ensures) c.end-self-inside.ensures c.after-self-inside.ensures;
+      buffered = buffer-same c.self.invariant.buffered refl refl refl refl refl;
     }
 
 pub returns-in-Some : goal.returns-in-Some
@@ -127,6 +129,7 @@ invariant_of-self-2 g c =
       streams = streams-given c.self.invariant.streams (unfailed g d) (settles-now g at.In-Some-given_settled)
           c.chain_rest-self-inside.result c.chain_rest-self-inside.ensures c.of-self-inside-2.result.value c.after-self-inside-2.result.number
           c.of-self-inside-2.ensures c.after-self-inside-2.ensures;
+      buffered = buffer-same c.self.invariant.buffered refl refl refl refl refl;
     }
 
 pub returns : goal.returns
@@ -152,6 +155,7 @@ invariant_of-self-in_default-given_settled g c =
       commits = c.self.invariant.commits;
       streams = streams-nothing c.self.invariant.streams (holds-now g at.In_default-given_settled) c.settled_from-self-inside.result
           c.settled_from-self-inside.ensures c.take_next.new.rest c.in_default-take_next.ensures.0;
+      buffered = buffer-same c.self.invariant.buffered refl refl refl refl refl;
     }
 
 pub returns-in_default-given_settled : goal.returns-in_default-given_settled

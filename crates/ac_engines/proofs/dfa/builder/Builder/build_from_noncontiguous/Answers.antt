@@ -49,7 +49,7 @@ invariant_of-result g c =
           (may nodes are_nodes) c.in_ok-table.table.items layout.lists layout.first_match layout.match_end
           (filled nodes (may nodes are_nodes)) laid;
       committed = dfa-commits _ _ _ refl nodes are_nodes (λ ns are. record { may = may ns are; is = is ns are }) _ _
-          (subst (λ (numbers : List ℕ). AreRenumbered numbers c.commits.result.now c.in_ok-commits.commits)
+          (subst (λ (numbers : List ℕ). AreRenumbered numbers c.commits.result.now c.in_ok-commits.commits.value)
           c.deref-2.ensures.value c.in_ok-commits.ensures)
           c.commits.ensures;
     })

@@ -63,7 +63,7 @@ invariant_of-result g c =
             few = packable.few;
             short = packable.short;
           })) _ _
-          (subst (λ (ns : List ℕ). AreRenumbered ns c.commits.result.now c.in_ok-commits.commits)
+          (subst (λ (ns : List ℕ). AreRenumbered ns c.commits.result.now c.in_ok-commits.commits.value)
           (c.deref-2.ensures.value ∙ sym numbers) c.in_ok-commits.ensures)
           (subst (λ (trie : Trie). HasCommits (automaton_of trie) c.commits.result.now)
           (ap (λ (q : PackPlan). q.trie) (sym plan)) c.commits.ensures);
