@@ -1,6 +1,16 @@
 /* The calls of ac.h. They test pointers, which the proofs assume to be valid, and call the proved library. */
 #include "raw.h"
 
+/* Where the proved library has the fields of what crosses the boundary, on x86-64. */
+_Static_assert(offsetof(struct ac_raw_options, engine) == 8 && offsetof(struct ac_raw_options, prefilter) == 16 &&
+               offsetof(struct ac_raw_options, dense_depth) == 24 && sizeof(struct ac_raw_options) == 32, "options");
+_Static_assert(offsetof(struct ac_raw_facts, memory) == 24 && offsetof(struct ac_raw_facts, engine) == 32 &&
+               offsetof(struct ac_raw_facts, start_kind) == 40 && sizeof(struct ac_raw_facts) == 48, "facts");
+_Static_assert(offsetof(ac_span, anchored) == 16 && offsetof(ac_span, earliest) == 20 && sizeof(ac_span) == 24, "spans");
+_Static_assert(offsetof(ac_match, start) == 8 && offsetof(ac_match, end) == 16 && sizeof(ac_match) == 24, "matches");
+_Static_assert(offsetof(ac_cursor, given) == 8 && sizeof(ac_cursor) == 16, "cursors");
+_Static_assert(sizeof(ac_raw_handle) == sizeof(ac_searcher) && sizeof(ac_raw_reader) == sizeof(ac_searcher), "handles");
+
 /* A slice that may be null where it is empty. */
 static int is_slice(const void *at, size_t len) {
     return at || len == 0;
@@ -29,12 +39,28 @@ uint32_t ac_version(void) {
     return ac_raw_version();
 }
 
+const char *ac_error_text(int32_t status) {
+    switch (status) {
+    case AC_OK: return "done";
+    case AC_FOUND: return "something was found";
+    case AC_ARGUMENTS: return "an argument is wrong";
+    case AC_MEMORY: return "an allocation failed";
+    case AC_LIMIT: return "too many patterns, a pattern too long, or too many states";
+    case AC_ANCHORED: return "the searcher doesn't support anchored searches";
+    case AC_UNANCHORED: return "the searcher doesn't support unanchored searches";
+    case AC_OVERLAPPING: return "overlapping searches need the match kind AC_STANDARD";
+    default: return "no such status";
+    }
+}
+
 int32_t ac_open(const ac_options *options, const void *bytes, size_t bytes_len, const size_t *ends, size_t ends_len,
                 ac_searcher *out) {
-    if (!options || !is_slice(bytes, bytes_len) || !is_slice(ends, ends_len) || !out || out->at)
+    if (!options || options->size != sizeof *options || !is_slice(bytes, bytes_len) || !is_slice(ends, ends_len) || !out || out->at)
         return AC_ARGUMENTS;
+    struct ac_raw_options settings = {options->match_kind, options->start_kind, options->engine, options->ignore_case,
+                                      options->prefilter, options->byte_classes, options->dense_depth};
     ac_raw_handle handle = {0};
-    int32_t status = ac_raw_open(options, slice(bytes), bytes_len, slice(ends), ends_len, &handle);
+    int32_t status = ac_raw_open(&settings, slice(bytes), bytes_len, slice(ends), ends_len, &handle);
     out->at = handle.at;
     return status;
 }
@@ -57,10 +83,13 @@ void ac_close(ac_searcher *searcher) {
 }
 
 int32_t ac_describe(const ac_searcher *searcher, ac_facts *out) {
-    if (!is_open(searcher) || !out)
+    if (!is_open(searcher) || !out || out->size != sizeof *out)
         return AC_ARGUMENTS;
     ac_raw_reader reader = reader_of(searcher);
-    ac_raw_facts(&reader, out);
+    struct ac_raw_facts facts;
+    ac_raw_facts(&reader, &facts);
+    *out = (ac_facts){sizeof *out, facts.patterns, facts.shortest, facts.longest, facts.memory, facts.engine, facts.match_kind,
+                      facts.start_kind};
     return AC_OK;
 }
 

@@ -27,7 +27,7 @@
    What the caller owes in every call:
    - A pointer with a length points to that many bytes, numbers or matches, which may be read, and written if the call writes
      there. If the length is 0 the pointer may be null.
-   - What a call writes does not overlap what the same call reads.
+   - What a call writes overlaps nothing else that the same call reads or writes. No call writes to what it only reads.
    - A searcher is empty, which is all zero, or comes from ac_open or ac_clone and wasn't closed. A copy of the struct is the
      same searcher: closing one closes both.
 
@@ -51,17 +51,21 @@ extern "C" {
 /* major * 10000 + minor * 100 + patch; ac_version() returns that of the library that was linked. */
 #define AC_VERSION 100
 
-/* What a call returns. With AC_ARGUMENTS to AC_OVERLAPPING it has done nothing, except that *filled is 0. */
+/* What a call returns. Below 0 it is an error: the call has done nothing, except that *filled is 0. So what is found can be tested
+   by `ac_find(..) > 0`. */
 enum {
-    AC_OK = 0,          /* done; nothing was found, where something is looked for */
-    AC_FOUND = 1,       /* something was found */
-    AC_ARGUMENTS = 2,   /* a null pointer, an empty searcher, or an argument that the call rules out */
-    AC_MEMORY = 3,      /* an allocation failed */
-    AC_LIMIT = 4,       /* too many patterns, a pattern too long, or too many states */
-    AC_ANCHORED = 5,    /* the searcher doesn't support anchored searches */
-    AC_UNANCHORED = 6,  /* the searcher doesn't support unanchored searches */
-    AC_OVERLAPPING = 7  /* overlapping searches need AC_STANDARD */
+    AC_OK = 0,           /* done; nothing was found, where something is looked for */
+    AC_FOUND = 1,        /* something was found */
+    AC_ARGUMENTS = -1,   /* a null pointer, an empty searcher, or an argument that the call rules out */
+    AC_MEMORY = -2,      /* an allocation failed */
+    AC_LIMIT = -3,       /* too many patterns, a pattern too long, or too many states */
+    AC_ANCHORED = -4,    /* the searcher doesn't support anchored searches */
+    AC_UNANCHORED = -5,  /* the searcher doesn't support unanchored searches */
+    AC_OVERLAPPING = -6  /* overlapping searches need AC_STANDARD */
 };
+
+/* Returns what a status says, in English, or "no such status". The text is the library's. */
+const char *ac_error_text(int32_t status);
 
 enum { AC_STANDARD = 0, AC_LEFTMOST_FIRST = 1, AC_LEFTMOST_LONGEST = 2 };                    /* match_kind */
 enum { AC_START_UNANCHORED = 0, AC_START_ANCHORED = 1, AC_START_BOTH = 2 };                  /* start_kind */
@@ -72,12 +76,14 @@ typedef struct ac_searcher { void *at; } ac_searcher;
 #define AC_EMPTY { 0 }
 
 /* The settings of a searcher; ignore_case, prefilter and byte_classes are 0 or 1. start_kind says which searches it supports;
-   with ignore_case the two cases of an ASCII letter are the same. engine and the last three change no answer. */
+   with ignore_case the two cases of an ASCII letter are the same. engine and the last three change no answer. `size` is that of the
+   struct, so that a later version may have more settings. */
 typedef struct ac_options {
+    size_t size;
     uint32_t match_kind, start_kind, engine, ignore_case, prefilter, byte_classes;
     size_t dense_depth;
 } ac_options;
-#define AC_DEFAULTS { AC_STANDARD, AC_START_UNANCHORED, AC_AUTO, 0, 1, 1, 2 }
+#define AC_DEFAULTS { sizeof(ac_options), AC_STANDARD, AC_START_UNANCHORED, AC_AUTO, 0, 1, 1, 2 }
 
 /* What is searched, and how: from byte start up to byte end, as if there were nothing else. The other two are 0 or 1. In an
    anchored search a match has to begin at start; in a walk, where the match before it ended. */
@@ -87,15 +93,16 @@ typedef struct ac_span { size_t start, end; uint32_t anchored, earliest; } ac_sp
 typedef struct ac_match { size_t pattern, start, end; } ac_match;
 /* How far a walk or a listing has come. {0, 0} begins one; any numbers are safe. */
 typedef struct ac_cursor { size_t at, given; } ac_cursor;
-/* engine is never AC_AUTO. Without patterns shortest is SIZE_MAX, and longest is 0. */
-typedef struct ac_facts { size_t patterns, shortest, longest, memory; uint32_t engine, match_kind, start_kind; } ac_facts;
+/* engine is never AC_AUTO. Without patterns shortest is SIZE_MAX, and longest is 0. `size` is that of the struct, and its caller's. */
+typedef struct ac_facts { size_t size, patterns, shortest, longest, memory; uint32_t engine, match_kind, start_kind; } ac_facts;
+#define AC_NO_FACTS { sizeof(ac_facts), 0, 0, 0, 0, 0, 0, 0 }
 
 uint32_t ac_version(void);
 
 /* Builds a searcher. `bytes` has all patterns one after another: pattern i ends before ends[i], and begins where the one
    before it ended. A pattern may be empty. The searcher keeps a copy of them.
-   AC_OK; AC_ARGUMENTS if an option has no such value, if ends go down or past bytes_len, or if `out` isn't empty; AC_MEMORY;
-   AC_LIMIT. */
+   AC_OK; AC_ARGUMENTS if an option has no such value, or their size isn't that of ac_options, if ends go down or past bytes_len, or
+   if `out` isn't empty; AC_MEMORY; AC_LIMIT. */
 int32_t ac_open(const ac_options *options, const void *bytes, size_t bytes_len, const size_t *ends, size_t ends_len,
                 ac_searcher *out);
 
@@ -107,7 +114,7 @@ int32_t ac_clone(const ac_searcher *searcher, ac_searcher *out);
 /* Frees a searcher, and leaves it empty. Does nothing if it is empty or null. */
 void ac_close(ac_searcher *searcher);
 
-/* Writes the facts of a searcher. AC_OK. */
+/* Writes the facts of a searcher. AC_OK; AC_ARGUMENTS if their size isn't that of ac_facts. */
 int32_t ac_describe(const ac_searcher *searcher, ac_facts *out);
 
 /* The searches. Each also returns AC_ARGUMENTS if the span starts past its end, ends past the haystack, or has a setting above

@@ -10,8 +10,8 @@ uint32_t ac_raw_version(void) {
     return AC_VERSION;
 }
 
-int32_t ac_raw_open(const ac_options *options, const uint8_t *bytes, size_t bytes_len, const size_t *ends, size_t ends_len,
-                    ac_raw_handle *out) {
+int32_t ac_raw_open(const struct ac_raw_options *options, const uint8_t *bytes, size_t bytes_len, const size_t *ends,
+                    size_t ends_len, ac_raw_handle *out) {
     return is_right(options && bytes && !bytes_len && ends && !ends_len && out);
 }
 
@@ -23,8 +23,8 @@ void ac_raw_close(ac_raw_handle handle) {
     (void)handle;
 }
 
-void ac_raw_facts(ac_raw_reader *searcher, ac_facts *out) {
-    out->patterns = searcher->at != NULL;
+void ac_raw_facts(ac_raw_reader *searcher, struct ac_raw_facts *out) {
+    *out = (struct ac_raw_facts){.patterns = searcher->at != NULL};
 }
 
 int32_t ac_raw_find(ac_raw_reader *searcher, const uint8_t *haystack, size_t haystack_len, const ac_span *span, ac_match *out) {
@@ -62,7 +62,7 @@ int main(void) {
     ac_searcher empty = AC_EMPTY, searcher = {&empty};
     ac_cursor cursor = {0, 0};
     ac_match match;
-    ac_facts facts;
+    ac_facts facts = AC_NO_FACTS;
     size_t number;
     const int32_t statuses[] = {
         ac_open(&options, NULL, 0, NULL, 0, &empty),

@@ -5,17 +5,21 @@
 #define AC_RAW_H
 #include "ac.h"
 
+/* The settings and the facts, without the sizes of ac.h. */
+struct ac_raw_options { uint32_t match_kind, start_kind, engine, ignore_case, prefilter, byte_classes; size_t dense_depth; };
+struct ac_raw_facts { size_t patterns, shortest, longest, memory; uint32_t engine, match_kind, start_kind; };
+
 /* A searcher on the heap, or none where `at` is null. */
 typedef struct ac_raw_handle { void *at; } ac_raw_handle;
 /* The right to read one: `at` is that of a handle, and isn't null. Each call has one of its own. */
 typedef struct ac_raw_reader { const void *at; } ac_raw_reader;
 
 uint32_t ac_raw_version(void);
-int32_t ac_raw_open(const ac_options *options, const uint8_t *bytes, size_t bytes_len, const size_t *ends, size_t ends_len,
-                    ac_raw_handle *out);
+int32_t ac_raw_open(const struct ac_raw_options *options, const uint8_t *bytes, size_t bytes_len, const size_t *ends,
+                    size_t ends_len, ac_raw_handle *out);
 int32_t ac_raw_clone(ac_raw_reader *searcher, ac_raw_handle *out);
 void ac_raw_close(ac_raw_handle handle);
-void ac_raw_facts(ac_raw_reader *searcher, ac_facts *out);
+void ac_raw_facts(ac_raw_reader *searcher, struct ac_raw_facts *out);
 int32_t ac_raw_find(ac_raw_reader *searcher, const uint8_t *haystack, size_t haystack_len, const ac_span *span, ac_match *out);
 int32_t ac_raw_is_match(ac_raw_reader *searcher, const uint8_t *haystack, size_t haystack_len, const ac_span *span);
 int32_t ac_raw_count(ac_raw_reader *searcher, const uint8_t *haystack, size_t haystack_len, const ac_span *span, size_t *count);

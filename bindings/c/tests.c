@@ -170,7 +170,7 @@ static void check_spans(void) {
         size_t count = 77, filled = 77;
         CHECK(ac_find(&searcher, "xabcx", 5, span, &match) == status && (status == AC_FOUND ? match.end == 4 : match.end == 9));
         CHECK(ac_is_match(&searcher, "xabcx", 5, span) == status);
-        CHECK(ac_count(&searcher, "xabcx", 5, span, &count) == without && (without != AC_OK || count == (status == AC_FOUND)));
+        CHECK(ac_count(&searcher, "xabcx", 5, span, &count) == without && count == (without == AC_OK ? status == AC_FOUND : 77));
         CHECK(ac_walk(&searcher, "xabcx", 5, span, &cursor, &match, 1, &filled) == without && filled == (status == AC_FOUND));
         cursor = (ac_cursor){span->start, 0};
         filled = 77;
@@ -239,11 +239,97 @@ static void check_opens(void) {
     CHECK(ac_version() == AC_VERSION);
 }
 
+/* A size that isn't the struct's is refused, and nothing is written. */
+static void check_sizes(void) {
+    ac_searcher searcher = AC_EMPTY;
+    const size_t end = 1, sizes[] = {0, sizeof(ac_options) - 1, sizeof(ac_options) + 1, SIZE_MAX};
+    for (size_t i = 0; i < 4; i++) {
+        ac_options options = AC_DEFAULTS;
+        options.size = sizes[i];
+        CHECK(ac_open(&options, "a", 1, &end, 1, &searcher) == AC_ARGUMENTS && !searcher.at);
+    }
+    searcher = opened(options_of(AC_STANDARD, AC_START_UNANCHORED, AC_AUTO), "a|");
+    const size_t others[] = {0, sizeof(ac_facts) - 1, sizeof(ac_facts) + 1, SIZE_MAX};
+    for (size_t i = 0; i < 4; i++) {
+        ac_facts facts = AC_NO_FACTS;
+        facts.size = others[i];
+        CHECK(ac_describe(&searcher, &facts) == AC_ARGUMENTS && facts.size == others[i] && !facts.patterns);
+    }
+    ac_close(&searcher);
+}
+
+/* Errors are below 0, each status has a text of its own, and no other number has. */
+static void check_statuses(void) {
+    const char *none = ac_error_text(INT32_MIN);
+    for (int32_t status = AC_OVERLAPPING; status <= AC_FOUND; status++)
+        for (int32_t other = AC_OVERLAPPING - 1; other <= AC_FOUND + 1; other++)
+            CHECK(!strcmp(ac_error_text(status), ac_error_text(other)) == (status == other));
+    CHECK(!strcmp(none, ac_error_text(AC_OVERLAPPING - 1)) && !strcmp(none, ac_error_text(AC_FOUND + 1)));
+    CHECK(AC_OK == 0 && AC_FOUND > 0 && AC_ARGUMENTS < 0 && AC_MEMORY < 0 && AC_LIMIT < 0 && AC_ANCHORED < 0 &&
+          AC_UNANCHORED < 0 && AC_OVERLAPPING < 0);
+}
+
+/* How much memory a searcher takes with other settings. */
+static size_t memory_by(uint32_t prefilter, uint32_t byte_classes, uint32_t ignore_case) {
+    ac_options options = options_of(AC_STANDARD, AC_START_UNANCHORED, AC_DFA);
+    options.prefilter = prefilter;
+    options.byte_classes = byte_classes;
+    options.ignore_case = ignore_case;
+    ac_searcher searcher = opened(options, "abcdefghij|");
+    ac_facts facts = AC_NO_FACTS;
+    CHECK(ac_describe(&searcher, &facts) == AC_OK);
+    ac_close(&searcher);
+    return facts.memory;
+}
+
+/* Each setting is seen by what it does alone: without classes a row has an entry for each byte, and a prefilter takes a little. */
+static void check_settings(void) {
+    size_t usual = memory_by(1, 1, 0);
+    CHECK(memory_by(1, 0, 0) > 8 * usual && memory_by(0, 1, 0) < 2 * usual);
+    ac_options options = AC_DEFAULTS;
+    ac_searcher searcher = opened(options, "a|A|");
+    CHECK(gives(ac_walk, &searcher, "aA", whole("aA"), 8, "0:0-1 1:1-2 "));
+    ac_close(&searcher);
+    options.ignore_case = 1;
+    searcher = opened(options, "a|A|");
+    CHECK(gives(ac_walk, &searcher, "aA", whole("aA"), 8, "0:0-1 0:1-2 "));
+    ac_span early = whole("abcd");
+    early.earliest = 1;
+    ac_close(&searcher);
+    searcher = opened(options_of(AC_LEFTMOST_LONGEST, AC_START_BOTH, AC_AUTO), "a|abcd|cd|");
+    CHECK(gives(ac_walk, &searcher, "abcd", whole("abcd"), 8, "1:0-4 "));
+    CHECK(gives(ac_walk, &searcher, "abcd", early, 8, "0:0-1 2:2-4 "));
+    CHECK(gives(ac_walk, &searcher, "abcd", anchored(early), 8, "0:0-1 "));
+    ac_close(&searcher);
+}
+
+/* 5,000 equal patterns end at one place, in batches of 8. */
+static void check_equal_patterns(void) {
+    enum { MANY = 5000 };
+    static char bytes[MANY];
+    static size_t ends[MANY];
+    memset(bytes, 'a', MANY);
+    for (size_t i = 0; i < MANY; i++)
+        ends[i] = i + 1;
+    const ac_options options = AC_DEFAULTS;
+    const ac_span span = AC_WHOLE(2);
+    ac_searcher searcher = AC_EMPTY;
+    ac_cursor cursor = {0, 0};
+    ac_match found[8];
+    size_t filled = 8, given = 0, wrong = 0;
+    CHECK(ac_open(&options, bytes, MANY, ends, MANY, &searcher) == AC_OK);
+    while (filled == 8 && ac_overlapping(&searcher, "aa", 2, &span, &cursor, found, 8, &filled) == AC_OK)
+        for (size_t i = 0; i < filled; i++, given++)
+            wrong += found[i].pattern != given % MANY || found[i].end != 1 + given / MANY;
+    CHECK(given == 2 * MANY && !wrong);
+    ac_close(&searcher);
+}
+
 static void check_facts(void) {
     for (uint32_t engine = AC_AUTO; engine <= AC_DFA; engine++) {
         ac_options options = options_of(AC_LEFTMOST_FIRST, AC_START_ANCHORED, engine);
         ac_searcher searcher = opened(options, "foo|bar|quux|baz|");
-        ac_facts facts;
+        ac_facts facts = AC_NO_FACTS;
         CHECK(ac_describe(&searcher, &facts) == AC_OK && facts.patterns == 4 && facts.shortest == 3 && facts.longest == 4);
         CHECK(facts.engine == (engine == AC_AUTO ? AC_DFA : engine) && facts.match_kind == 1 && facts.start_kind == 1);
         ac_close(&searcher);
@@ -258,7 +344,7 @@ static void check_clones(void) {
     for (uint32_t i = 0; i < 8; i++) {
         ac_searcher searcher = opened(options_of(AC_STANDARD, AC_START_UNANCHORED, i / 2), "append|appendage|app|");
         ac_searcher clone = AC_EMPTY, second = AC_EMPTY;
-        ac_facts facts, cloned;
+        ac_facts facts = AC_NO_FACTS, cloned = AC_NO_FACTS;
         CHECK(ac_clone(&searcher, &clone) == AC_OK && clone.at && clone.at != searcher.at);
         CHECK(ac_clone(&clone, &second) == AC_OK && second.at && second.at != clone.at);
         CHECK(ac_describe(&searcher, &facts) == AC_OK && ac_describe(&second, &cloned) == AC_OK);
@@ -294,7 +380,7 @@ static ac_searcher check_pointers_of_open(void) {
 
 static void check_pointers_of_finds(const ac_searcher *searcher) {
     ac_match match;
-    ac_facts facts;
+    ac_facts facts = AC_NO_FACTS;
     size_t count;
     CHECK(ac_find(searcher, NULL, 0, &no_byte, &match) == AC_OK && ac_is_match(searcher, NULL, 0, &no_byte) == AC_OK);
     CHECK(ac_count(searcher, NULL, 0, &no_byte, &count) == AC_OK && !count);
@@ -426,7 +512,7 @@ static int clone_scarce(ac_options options, ac_searcher *searcher) {
     (void)options;
     granted = -1;
     int is_right = status == AC_OK ? clone.at != NULL : status == AC_MEMORY && !clone.at;
-    is_right = is_right && ac_describe(searcher, &(ac_facts){0}) == AC_OK;
+    is_right = is_right && ac_describe(searcher, &(ac_facts)AC_NO_FACTS) == AC_OK;
     ac_close(&clone);
     return is_right;
 }
@@ -547,6 +633,10 @@ int main(void) {
     check_spans();
     check_anchored();
     check_opens();
+    check_sizes();
+    check_statuses();
+    check_settings();
+    check_equal_patterns();
     check_facts();
     check_clones();
     check_pointers();

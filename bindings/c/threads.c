@@ -34,7 +34,7 @@ static size_t all_matches(search *by, const ac_searcher *searcher, ac_match *out
 
 static void answer(const ac_searcher *searcher, answers *out) {
     const ac_span span = AC_WHOLE(sizeof haystack);
-    ac_facts facts;
+    ac_facts facts = AC_NO_FACTS;
     memset(out, 0, sizeof *out);
     out->statuses[0] = ac_find(searcher, haystack, sizeof haystack, &span, &out->found);
     out->statuses[1] = ac_is_match(searcher, haystack, sizeof haystack, &span);

@@ -44,8 +44,8 @@ class OverlappingError(Error):
     """Overlapping searches need the kind "standard"."""
 
 
-OK, FOUND, MEMORY = 0, 1, 3
-ERRORS = {2: ArgumentError, 4: LimitError, 5: AnchoredError, 6: UnanchoredError, 7: OverlappingError}
+OK, FOUND, MEMORY = 0, 1, -2
+ERRORS = {-1: ArgumentError, -3: LimitError, -4: AnchoredError, -5: UnanchoredError, -6: OverlappingError}
 
 
 class _Searcher(ctypes.Structure):
@@ -53,7 +53,8 @@ class _Searcher(ctypes.Structure):
 
 
 class _Options(ctypes.Structure):
-    _fields_ = [(name, ctypes.c_uint32) for name in
+    _fields_ = [("size", ctypes.c_size_t)]
+    _fields_ += [(name, ctypes.c_uint32) for name in
                 ("match_kind", "start_kind", "engine", "ignore_case", "prefilter", "byte_classes")]
     _fields_ += [("dense_depth", ctypes.c_size_t)]
 
@@ -68,7 +69,7 @@ class _Cursor(ctypes.Structure):
 
 
 class _Facts(ctypes.Structure):
-    _fields_ = [(name, ctypes.c_size_t) for name in ("patterns", "shortest", "longest", "memory")]
+    _fields_ = [(name, ctypes.c_size_t) for name in ("size", "patterns", "shortest", "longest", "memory")]
     _fields_ += [(name, ctypes.c_uint32) for name in ("engine", "match_kind", "start_kind")]
 
 
@@ -172,13 +173,13 @@ class AhoCorasick:
             raise TypeError("patterns are all str or all bytes")
         self._lengths = [len(pattern) for pattern in patterns]
         self.kind, self.start = kind, start
-        options = _Options(_number(KINDS, kind, "kind"), _number(STARTS, start, "start"), _number(ENGINES, engine, "engine"),
+        options = _Options(ctypes.sizeof(_Options), _number(KINDS, kind, "kind"), _number(STARTS, start, "start"), _number(ENGINES, engine, "engine"),
                            bool(ignore_case), bool(prefilter), bool(byte_classes), dense_depth)
         data, ends = _joined([self._bytes_of(pattern) for pattern in patterns])
         opened = _Open()
         _raise_on(_library.ac_open(options, data, len(data), ends, len(ends), opened.searcher))
         self._open = opened
-        facts = _Facts()
+        facts = _Facts(ctypes.sizeof(_Facts))
         self._call(_library.ac_describe, facts)
         self.engine, self.memory_usage = ENGINES[facts.engine], facts.memory
 

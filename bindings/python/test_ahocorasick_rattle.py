@@ -158,7 +158,7 @@ class Searches(unittest.TestCase):
         for setting in ("kind", "start", "engine"):
             self.assertRaises(ArgumentError, AhoCorasick, ["a"], **{setting: "other"})
         self.assertTrue(issubclass(Error, ValueError) and issubclass(LimitError, Error))
-        self.assertRaises(LimitError, ahocorasick_rattle._raise_on, 4)
+        self.assertRaises(LimitError, ahocorasick_rattle._raise_on, -3)
 
     def test_want_of_memory(self):
         """It is a MemoryError, after which all goes on."""

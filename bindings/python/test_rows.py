@@ -1,4 +1,5 @@
 """The lines of rows.txt, by each engine with each setting."""
+import ctypes
 import itertools
 import pathlib
 import re
@@ -51,7 +52,7 @@ class Rows(unittest.TestCase):
         """They have no shortest one."""
         for kind in KINDS:
             for searcher, settings in searchers([], kind=kind):
-                facts = _Facts()
+                facts = _Facts(ctypes.sizeof(_Facts))
                 searcher._call(_library.ac_describe, facts)
                 self.assertEqual((2**64 - 1, 0, 0), (facts.shortest, facts.longest, len(searcher)), settings)
 

@@ -17,12 +17,12 @@ fn answer(status: i32) -> Result<bool, Refusal> {
     match status {
         0 => Ok(false),
         1 => Ok(true),
-        2 => Err(Refusal::Arguments),
-        3 => Err(Refusal::Memory),
-        4 => Err(Refusal::Limit),
-        5 => Err(Refusal::Anchored),
-        6 => Err(Refusal::Unanchored),
-        7 => Err(Refusal::Overlapping),
+        -1 => Err(Refusal::Arguments),
+        -2 => Err(Refusal::Memory),
+        -3 => Err(Refusal::Limit),
+        -4 => Err(Refusal::Anchored),
+        -5 => Err(Refusal::Unanchored),
+        -6 => Err(Refusal::Overlapping),
         _ => unreachable!("the library has no status {status}"),
     }
 }

@@ -1,5 +1,5 @@
 //! What C relies on, and what follows from the definitions of what is due, as contracts of functions that do nothing.
-ghost use Rattle.std.specs.Prelude.{◌≡◌, pos};
+ghost use Rattle.std.specs.Prelude.{◌≡◌, neg_ℤ, pos};
 ghost use Rattle.ac_c.specs.Batches.{BeginsWithAll, listing_due, walk_due};
 ghost use Rattle.ac_c.specs.Searches.{overlapping_in, walked_in};
 ghost use Rattle.ac_c.specs.declared.status.TheConstants.{ANCHORED, ARGUMENTS, FOUND, LIMIT, MEMORY, OK, OVERLAPPING, UNANCHORED};
@@ -13,9 +13,10 @@ pub fn batches_begin_with_all()
     ensures listing { BeginsWithAll listing_due overlapping_in }
 {}
 
-/// The statuses have these numbers, which the header of the C library names.
+/// The statuses have these numbers, which the header of the C library names: 0 or more where a call has done its work, and below 0
+/// where it has not.
 pub fn statuses_are_numbered()
     ensures done { (OK ≡ pos 0) × (FOUND ≡ pos 1) }
-    ensures wrong { (ARGUMENTS ≡ pos 2) × (MEMORY ≡ pos 3) × (LIMIT ≡ pos 4) }
-    ensures refused { (ANCHORED ≡ pos 5) × (UNANCHORED ≡ pos 6) × (OVERLAPPING ≡ pos 7) }
+    ensures wrong { (ARGUMENTS ≡ neg_ℤ (pos 1)) × (MEMORY ≡ neg_ℤ (pos 2)) × (LIMIT ≡ neg_ℤ (pos 3)) }
+    ensures refused { (ANCHORED ≡ neg_ℤ (pos 4)) × (UNANCHORED ≡ neg_ℤ (pos 5)) × (OVERLAPPING ≡ neg_ℤ (pos 6)) }
 {}
