@@ -41,7 +41,10 @@ pub mod OnwardReads
 pub mod OnwardTakes
 pub mod Orders
 pub mod Overlapping
+pub mod OverlappingPieceSteps
+pub mod OverlappingPieces
 pub mod PastGives
+pub mod PastSpan
 pub mod PatternHeads
 pub mod PieceReads
 pub mod PieceSteps

@@ -1,7 +1,7 @@
 -- A listing that reads byte by byte: which item is due where the automaton stands, and what is listed with one byte
 -- more.
 use Rattle.ac_util.proofs.Prelude.{◌≡◌, ◌⊎◌, ℕ, zero, suc, ◌+◌, ◌-◌, ◌<◌, ◌≤◌, Bool, true, cond, List, [], ◌∷◌, ◌++◌, map, length, length-append, inl, inr, refl, ap, sym, subst, ◌∙◌, arith, Option, Some, None, All, slice_get, rules, take_while, append_assoc, length-map, slice_get_past, common_steps}
-use Rattle.ac_automaton.specs.Prelude.{all, ending, item_at, MatchKind, Node, Occurrence, Occurs, pattern_of, place_after, Search, Span, Standard, Cursor, due_in, given_in, HasMoved, in_memory, IsAt, IsListed, IsState, Lists, matches_of, MatchRest, node, node_at, PassesNoMatch, Reached, rest_in, Scan, ScanText, search_through, Work, HasGivenItem}
+use Rattle.ac_automaton.specs.Prelude.{all, ending, item_at, MatchKind, Node, Occurrence, Occurs, pattern_of, place_after, Search, Span, Standard, Cursor, due_in, given_in, HasMoved, in_memory, IsAt, IsListed, IsState, Lists, matches_of, MatchRest, node, node_at, NoMatchBetween, Reached, rest_in, Scan, ScanText, search_through, HasGivenItem}
 use Rattle.std.proofs.lemmas.List.Sums.{take_while-cons}
 use Rattle.ac_util.proofs.Lists.{IsIn-append_right}
 use Rattle.ac_util.proofs.Listing.{all-only}
@@ -69,7 +69,7 @@ module _ (s : Scan) (bytes : List ℕ) (span : Span) where
   -- a listing that was just come to a state
   module _ {state at : ℕ} (is_at : IsAt s t state at) (lists : Lists s.built s.anchored (node s t at) (s.listed state)) where
     -- all matches there are due
-    due-arrived : due_in s.listed q (arrived state at) ≡ matches_at at
+    pub due-arrived : due_in s.listed q (arrived state at) ≡ matches_at at
     due-arrived =
         listed-due s.built (s.listed state) span.start at s.anchored (node s t at) lists (node-fits s t state at is_at)
 
@@ -87,7 +87,7 @@ module _ (s : Scan) (bytes : List ℕ) (span : Span) where
     here = up_to reached.at
 
     -- how many items were given
-    given-count : given_in s.listed q reached ≡ length on.given
+    pub given-count : given_in s.listed q reached ≡ length on.given
     given-count = grind (arith, common_steps)
 
     -- what is due, by the first match in the rest of the list
@@ -99,7 +99,7 @@ module _ (s : Scan) (bytes : List ℕ) (span : Span) where
         ∙ take_while-cons (counts s.built s.anchored (reached.at - span.start)) n (rest_in s.listed rest)
 
     -- what is due first occurs
-    due-occurs : (n : ℕ) (later : List ℕ) → due_in s.listed q reached ≡ n ∷ later → Occurs here (ending here n)
+    pub due-occurs : (n : ℕ) (later : List ℕ) → due_in s.listed q reached ≡ n ∷ later → Occurs here (ending here n)
     due-occurs n later e = search (rules, all-only, IsIn-append_right (ending here n) on.given (map (ending here) (n ∷ later)) (inl refl))
 
     -- a match that counts is no longer than what was read
@@ -186,8 +186,9 @@ module _ (s : Scan) (bytes : List ℕ) (span : Span) where
 
   -- no item ends where no match was passed over, so a listing that has nothing due goes on where its scan has come to
   module _ (standard : s.built.kind ≡ Standard) (legal : span.end ≤ length bytes) {reached : Reached}
-      (on : IsListed s t reached) (none : due_in s.listed q reached ≡ []) {cursor : Cursor} {work new_work : Work}
-      (passed : PassesNoMatch s t reached.at work cursor new_work) (within : cursor.at ≤ span.end) where
+      (on : IsListed s t reached) (none : due_in s.listed q reached ≡ []) {cursor : Cursor}
+      (is_at : IsAt s t cursor.state cursor.at) (quiet : NoMatchBetween s t reached.at cursor.at)
+      (within : cursor.at ≤ span.end) where
     -- all items that end up to a place
     abbrev all_to : ℕ → List Occurrence
     all_to k = all (up_to k)

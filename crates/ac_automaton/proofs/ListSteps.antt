@@ -1,6 +1,6 @@
 -- A listing on its way: it has read on, and has given no item yet.
 use Rattle.ac_util.proofs.Prelude.{◌≡◌, ◌⊎◌, ◌<◌, ℕ, [], IsTrue, ◌↔◌, Bool, false, subst, sym, ◌∙◌, inr, Option, Some, None, rules, cases_lt, false≢true, ◌≤◌}
-use Rattle.ac_automaton.specs.Prelude.{Counts, Node, Occurrence, Taped, Cursor, due_in, in_memory, IsAlive, Lists, ListsOn, MayAdvance, MayList, node, PassesNoMatch, Reached, Scan, ScannerView, ScansTo, ScanText, search_through, work_of, HasGivenItem, TakesDue, Advances, at}
+use Rattle.ac_automaton.specs.Prelude.{Counts, Node, Occurrence, Taped, Cursor, due_in, in_memory, IsAlive, Lists, ListsOn, MayAdvance, MayList, NoMatchBetween, node, Reached, Scan, ScannerView, ScansTo, ScanText, search_through, work_of, HasGivenItem, TakesDue, Advances, at}
 use Rattle.ac_automaton.proofs.ListLoop.{HasComeOn, come-on, has-moved}
 use Rattle.ac_automaton.proofs.ReadOn.{scans-on}
 
@@ -84,9 +84,9 @@ module _ {v : ScannerView} {start : Reached} {tape : Taped} {counts : Counts} (m
             let passed = advances.passes (in_memory tape.bytes v.span) (sym on.bytes)
             (subst (λ (r : Reached). IsAlive v.scan (in_memory tape.bytes v.span) (cursor_of r)) (sym stayed) alive) in
             let here = subst (λ (k : ℕ). k < there.at) gave.at advances.moved in
-            let came = come-on v.scan tape.bytes v.span may.standard may.inside on.on.leaves nothing-due
-            (subst (λ (k : ℕ). PassesNoMatch v.scan (in_memory tape.bytes v.span) k (work_of tape_here counts_here) there
-            (work_of new_tape new_counts)) gave.at passed) advances.within here (lists _ passed.is_at.there) in
+            let came = come-on v.scan tape.bytes v.span may.standard may.inside on.on.leaves nothing-due passed.is_at
+            (subst (λ (k : ℕ). NoMatchBetween v.scan (in_memory tape.bytes v.span) k there.at) gave.at passed.none)
+            advances.within here (lists _ passed.is_at.there) in
             subst (λ (r : Reached). HasListedOn v start tape counts r new_tape new_counts) (sym is) (record {
               bytes = advances.bytes ∙ on.bytes;
               on = record { leaves = came.leaves; as_many = came.as_many ∙ on.on.as_many };

@@ -1,10 +1,10 @@
 -- Reading on by the byte in hand and then through a piece, and what was read then of all that came.
-use Rattle.ac_util.proofs.Prelude.{◌≡◌, ◌≢◌, ◌⊎◌, ℕ, zero, suc, ◌+◌, ◌-◌, ◌<◌, ◌≤◌, Bool, true, false, List, [], ◌∷◌, ◌++◌, length, length-append, take, drop, get_or, slice_index, Option, Some, None, IfSome, inl, inr, refl, ap, sym, subst, ◌∙◌, arith, false≢true}
-use Rattle.ac_automaton.specs.Prelude.{Arrives, AutomatonView, Cursor, is_leftmost, matches_of, Node, No, ReadsThrough, Scan, StopsAt, hand_bytes, in_hand, led, step_of}
+use Rattle.ac_util.proofs.Prelude.{◌≡◌, ◌≢◌, ℕ, zero, suc, ◌+◌, ◌-◌, ◌<◌, ◌≤◌, false, List, ◌∷◌, ◌++◌, length, slice_index, Option, Some, None, IfSome, inl, inr, refl, ap, sym, subst, ◌∙◌, arith, false≢true}
+use Rattle.ac_automaton.specs.Prelude.{Arrives, Cursor, matches_of, Node, ReadsThrough, Scan, hand_bytes, in_hand, led, step_of}
 use Rattle.ac_automaton.proofs.Led.{led-byte, led-none}
 
 -- the same bytes lead to the same node, wherever they stand
-led-moved : (s : Scan) (bytes whole : List ℕ) (shift : ℕ) (u : Node) (from n : ℕ)
+pub led-moved : (s : Scan) (bytes whole : List ℕ) (shift : ℕ) (u : Node) (from n : ℕ)
     → ((k : ℕ) → k < n → slice_index whole (shift + from + k) ≡ slice_index bytes (from + k))
     → led s whole u (shift + from) n ≡ led s bytes u from n
 led-moved s bytes whole shift u from zero same = led-none s whole u (shift + from) zero refl ∙ sym (led-none s bytes u from zero refl)
@@ -64,6 +64,7 @@ module _ {s : Scan} {bytes : List ℕ} {cursor there : Cursor} {byte : Option �
     within = λ inside. omega arith;
     hand = hand-there;
     comes = λ v stands. arrives v (reads.comes v stands);
+    moved = λ none some. let e = ap in_hand none in omega arith;
     enough = λ none. inl (let e = ap in_hand none in omega arith);
   }
 
@@ -90,6 +91,7 @@ module _ (s : Scan) (past : s.stops ≡ false) (state next b : ℕ) (bytes : Lis
     onward = omega arith;
     within = λ inside. omega arith;
     hand = (omega arith, refl);
+    moved = λ none. absurd (let no : Some b ≡ None = none in cc);
     comes = λ v stands. record {
       node = v;
       there = stands;
@@ -108,6 +110,7 @@ module _ (s : Scan) (past : s.stops ≡ false) (state next b : ℕ) (bytes : Lis
     onward = omega arith;
     within = λ inside. let w = reads.within (omega arith) in omega arith;
     hand = by byte reads.hand;
+    moved = λ none some. omega arith;
     comes = λ v stands. go v (step_of s.built s.anchored (Some v) b) refl (steps (Some v) stands);
     enough = λ none. elim (reads.enough none) [
       | inl over ↦ inl (omega arith)

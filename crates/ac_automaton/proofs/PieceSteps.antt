@@ -1,8 +1,8 @@
 -- The search of a text that comes in pieces gives its next match, or none: what it has taken, and where it stands then.
-use Rattle.ac_util.proofs.Prelude.{◌≡◌, ◌≢◌, ◌⊎◌, ℕ, ◌+◌, ◌-◌, ◌<◌, ◌≤◌, Bool, true, max, min, List, [], ◌∷◌, ◌++◌, length, length-append, take, drop, Option, Some, None, IfSome, option_map, slice_get, inl, inr, refl, ap, sym, subst, ◌∙◌, arith, append-nil, drop_all, take-append-drop, length-drop, cases_lt}
-use Rattle.ac_automaton.specs.Prelude.{AutomatonView, Built, CommitsView, Cursor, Ended, Failed, Given, GivesAt, GivesMatch, GivesRead, HasGivenSettled, Inside, IsFed, IsStreaming, KeepsGiven, MatchKind, No, Node, Occurrence, Open, Phase, ReadsThrough, SettlesBy, Standard, StopsAt, Streaming, TakesFrom, TakesOn, hand_bytes, in_hand, inside_of, kept_from, matches_of, matches_so_far, most_of, pattern_of, pending, place_of, scan_of, streaming_by, stream_result, ChainMatch, ChainRest, first_given, usize_max}
+use Rattle.ac_util.proofs.Prelude.{◌≡◌, ◌≢◌, ◌⊎◌, ℕ, ◌+◌, ◌-◌, ◌≤◌, Bool, true, max, min, List, [], ◌∷◌, ◌++◌, length, length-append, take, drop, Option, Some, None, option_map, inl, inr, refl, ap, sym, subst, ◌∙◌, arith, append-nil, drop_all, take-append-drop, length-drop, cases_lt}
+use Rattle.ac_automaton.specs.Prelude.{AutomatonView, CommitsView, Cursor, Given, GivesAt, GivesMatch, Inside, IsFed, IsStreaming, KeepsGiven, No, Node, Occurrence, Open, Phase, ReadsThrough, SettlesBy, Standard, Streaming, TakesFrom, TakesOn, hand_bytes, in_hand, inside_of, kept_from, matches_of, matches_so_far, most_of, pattern_of, pending, place_of, scan_of, streaming_by, stream_result, ChainRest, first_given, usize_max}
 use Rattle.ac_automaton.proofs.OnwardGives.{gives-first}
-use Rattle.ac_automaton.proofs.Pieces.{all-given, bytes-small, closed-none, count, count-few, count-piece, followed-more, hand-empty, inv-more, kept-given, more, more-long, on-more, read-long, text-long}
+use Rattle.ac_automaton.proofs.Pieces.{all-given, bytes-small, closed-none, count, count-few, followed-more, hand-empty, inv-more, kept-given, more, more-long, on-more, read-long, text-long}
 use Rattle.ac_automaton.proofs.StreamFilling.{given-stays}
 use Rattle.ac_automaton.proofs.StreamKnown.{gives-known, streams-known}
 use Rattle.ac_automaton.proofs.StreamNext.{holds-so, settles-so}

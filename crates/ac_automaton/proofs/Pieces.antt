@@ -1,8 +1,8 @@
 -- The search of a text that comes in pieces: where it stands, by where a search over a stream stands whose buffer has all that came.
-use Rattle.ac_util.proofs.Prelude.{◌≡◌, ◌≢◌, ◌⊎◌, ℕ, zero, suc, ◌+◌, ◌-◌, ◌<◌, ◌≤◌, Bool, true, false, not, min, List, [], ◌∷◌, ◌++◌, length, length-append, length-drop, length-take-le, take, drop, get_or, slice_index, Option, Some, None, IfSome, MatchOption, inl, inr, refl, ap, sym, subst, ◌∙◌, arith, append-nil, drop-append-le, get_or-drop, false≢true, common_steps, drop_all}
+use Rattle.ac_util.proofs.Prelude.{◌≡◌, ◌⊎◌, ℕ, zero, suc, ◌+◌, ◌-◌, ◌<◌, ◌≤◌, Bool, false, not, List, [], ◌∷◌, ◌++◌, length, length-append, length-drop, length-take-le, take, drop, get_or, slice_index, Option, Some, None, IfSome, inl, inr, refl, ap, sym, subst, ◌∙◌, arith, append-nil, drop-append-le, get_or-drop, false≢true, common_steps, drop_all}
 use Rattle.std.proofs.Math.Seq.{take-length}
 use Rattle.std.proofs.lemmas.List.{drop_more, get_or-take}
-use Rattle.ac_automaton.specs.Prelude.{AutomatonView, Built, CommitsView, Cursor, Ended, Failed, Given, HasCommits, Inside, IsFed, IsStreaming, KeepsGiven, MatchKind, No, Node, Occurrence, Open, Phase, ReadsThrough, Standard, StandsPast, StopsAt, Streaming, hand_bytes, in_hand, inside_of, is_leftmost, matches_so_far, most_kept, most_of, pending, pick, plain_of, reached, scan_of, step, step_of, stream_from, streaming_by, stream_refusal, stream_result, text, ChainMatch, ChainRest, first_given, usize_max}
+use Rattle.ac_automaton.specs.Prelude.{AutomatonView, CommitsView, Cursor, Ended, Failed, HasCommits, Inside, IsFed, IsStreaming, KeepsGiven, MatchKind, No, Node, Open, Phase, ReadsThrough, Standard, StopsAt, Streaming, hand_bytes, in_hand, inside_of, is_leftmost, matches_so_far, most_kept, most_of, pending, pick, plain_of, reached, scan_of, step, step_of, stream_from, streaming_by, stream_refusal, stream_result, text, ChainMatch, ChainRest, usize_max}
 use Rattle.ac_util.proofs.Reached.{reached-alive, step-reached}
 use Rattle.ac_util.proofs.Walks.{next-none, walk_after-None}
 use Rattle.ac_automaton.proofs.PieceReads.{reads-moved}

@@ -9,6 +9,7 @@ pub mod Finds
 pub mod Growths
 pub mod Iterators
 pub mod Onward
+pub mod OverlappingPieces
 pub mod Overlaps
 pub mod Pieces
 pub mod Prelude

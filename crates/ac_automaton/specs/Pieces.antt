@@ -1,6 +1,6 @@
 -- What a search does over a text that comes in pieces, each of which is handed to it.
-use Rattle.std.specs.Prelude.{◌≡◌, ◌≢◌, ◌⊎◌, ℕ, ◌≤◌, ◌-◌, min, Bool, List, [], ◌∷◌, ◌++◌, Option, None, Some, drop, length, take}
-use Rattle.ac_automaton.specs.Util.{Built, No, Occurrence, Standard, stream_result, usize_max}
+use Rattle.std.specs.Prelude.{◌≡◌, ◌≢◌, ◌⊎◌, ℕ, ◌≤◌, ◌-◌, min, Bool, List, [], ◌∷◌, ◌++◌, Option, None, Some, drop, length}
+use Rattle.ac_automaton.specs.Util.{Built, No, Occurrence, Standard, usize_max}
 use Rattle.ac_automaton.specs.Automata.{AutomatonView}
 use Rattle.ac_automaton.specs.Commits.{CommitsView, HasCommits}
 use Rattle.ac_automaton.specs.declared.automaton.onward.ChainRest.{ChainRest}

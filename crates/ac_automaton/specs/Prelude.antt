@@ -43,6 +43,7 @@ pub use Rattle.ac_automaton.specs.Finds.{Finding, FindsAt, FindsIn, FitsIn, HasR
 pub use Rattle.ac_automaton.specs.Growths.{EndsPatterns, HasBranched, HasChild, HasParent, HasRoot, HasSorted, IsGrown, IsNext, IsNotPushed, IsQueueReady, IsRangeOf, IsWhole, LinkIsDue, MayBranch, Source, Waits, grown_view, leading, nodes_of, source_of, word}
 pub use Rattle.ac_automaton.specs.Iterators.{Finds, GoesOn, HasFound, IsByFinds, IsPaid, IsUnderWay, MovesApart, Walking, after, first_work, initial_walk, kept_place, last_after, looks_beyond, reads_once, reads_past, reads_past_by, walking_of}
 pub use Rattle.ac_automaton.specs.Onward.{BeginsPast, HasCounted, IsCounted, IsKept, IsOnward, IsOnwardIn, IsReadingPast, IsRestBefore, StandsBy, kept_work, reached_by}
+pub use Rattle.ac_automaton.specs.OverlappingPieces.{GivesNextTaken, GivesTaken, HasGivenTaken, IsPieceListing, KeepsListed, ListsTaken, PieceListing, TakesToItem, listed_taken, nothing_listed, piece_listing, piece_listing_refusal, search_taken}
 pub use Rattle.ac_automaton.specs.Overlaps.{GivesNext, HasGivenItem, HasListed, HasMoved, IsListed, IsListing, IsPlaced, ListsNext, ListsOn, MayList, Overlapping, Takes, TakesDue, due_in, given_by, given_in, initial_listing, is_due, overlapping_by, overlapping_of, rest_in}
 pub use Rattle.ac_automaton.specs.Pieces.{IsFed, TakesOn, hand_bytes, inside_of, most_of, no_pieces}
 pub use Rattle.ac_automaton.specs.Reads.{Advances, Comes, HasReadOn, HasScanned, IsAtStart, IsReading, MayRead, Point, ReadsEnough, ReadsFurther, ReadsOn, ReadsToStop, StopsAt, Tries, at, entered, hand_of, in_hand, point, read_to, tried, worth}

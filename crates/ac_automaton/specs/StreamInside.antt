@@ -128,10 +128,12 @@ pub record Arrives (s : Scan) (bytes v : List ℕ) (cursor new_cursor : Cursor) 
       → matches_of s.built s.anchored (led s bytes (Some v) cursor.at n) ≡ []
   pub dead : IfSome hand (λ b. step_of s.built s.anchored (Some node) b ≡ None)
 
--- a search has read on in some bytes up to their end, to a byte that leads to the dead node, or to a state where it is to stop
+-- a search has read on in some bytes up to their end, to a byte that leads to the dead node, or to a state where it is to stop. It
+-- has followed one at least, where there is one and it leads on
 pub record ReadsThrough (s : Scan) (bytes : List ℕ) (cursor new_cursor : Cursor) (byte : Option ℕ) : Type 0 where
   pub onward : cursor.at ≤ new_cursor.at
   pub within : cursor.at ≤ length bytes → new_cursor.at ≤ length bytes
   pub hand : IfSome byte (λ b. (new_cursor.at < length bytes) × (b ≡ slice_index bytes new_cursor.at))
   pub comes : (v : List ℕ) → s.stands cursor.state (Some v) → Arrives s bytes v cursor new_cursor byte
+  pub moved : byte ≡ None → cursor.at < length bytes → cursor.at < new_cursor.at
   pub enough : byte ≡ None → (length bytes ≤ new_cursor.at) ⊎ StopsAt s new_cursor.state

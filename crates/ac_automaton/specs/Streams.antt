@@ -1,5 +1,5 @@
 -- What is seen of a search over a stream, and what its calls do.
-use Rattle.std.specs.Prelude.{◌≡◌, ◌≢◌, ◌⊎◌, ℕ, ◌+◌, ◌-◌, ◌<◌, ◌≤◌, Bool, List, [], ◌++◌, Option, None, Some, Result, MatchBool, MatchOption, MatchResult, length, slice_get, take}
+use Rattle.std.specs.Prelude.{◌≡◌, ◌≢◌, ◌⊎◌, ℕ, ◌+◌, ◌-◌, ◌<◌, ◌≤◌, Bool, List, [], ◌++◌, Option, Some, Result, MatchBool, MatchOption, MatchResult, length, slice_get, take}
 use Rattle.ac_automaton.specs.Util.{buffer_len, Built, CouldNextChange, FailsToRead, IsAllSettled, IsNear, IsSettledBefore, IsSettledBy, Occurrence, Reading, ReadsAll, ReadsSome, Standard, stream_result, StreamError, usize_max}
 use Rattle.ac_automaton.specs.declared.automaton.stream_settled.Phase.{Phase}
 use Rattle.ac_automaton.specs.declared.automaton.stream_settled.Phase.TheVariants.{Open, Ended, Failed}

@@ -1,6 +1,6 @@
 -- Where a pattern stands in a text: after some bytes and before some more.
-use Rattle.ac_util.proofs.Prelude.{◌≡◌, ℕ, ◌+◌, ◌-◌, ◌≤◌, Bool, false, List, ◌++◌, length, length-append, take, drop, slice_range, refl, ap, sym, subst, ◌∙◌, arith, All, All-weaker, IfSome, Option, None, Some, length-map, map, drop-drop, drop-append_seam, take-append_seam, length-take-le, take-append-drop, common_steps}
-use Rattle.ac_search.specs.Prelude.{IsItsPattern, IsSame, LiesIn, Occurrence, Occurs, pattern_of, plain, plain_byte, search_in, StandsBetween}
+use Rattle.ac_util.proofs.Prelude.{◌≡◌, ℕ, ◌+◌, ◌-◌, Bool, false, List, ◌++◌, take, drop, slice_range, ap, sym, subst, ◌∙◌, arith, IfSome, Option, None, Some, drop-drop, take-append-drop, common_steps}
+use Rattle.ac_search.specs.Prelude.{IsItsPattern, IsSame, LiesIn, Occurrence, Occurs, pattern_of, search_in, StandsBetween}
 use Rattle.ac_automaton.specs.Util.{Built, InputView}
 use Rattle.ac_util.specs.Input.{whole_input}
 use Rattle.ac_util.proofs.SamenessLemmas.{IsSame-equal, IsSame-length}

@@ -1,6 +1,6 @@
 -- An engine answers for a searcher that supports some of its starts.
 use Rattle.ac_util.proofs.Prelude.{◌≡◌, sym, ◌∙◌, Some, None, ◌⊎◌, Result, Ok, Err, MatchResult, arith, rules, common_steps}
-use Rattle.ac_search.specs.Prelude.{AnswersUnless, Both, find_refusal, MatchError, No, overlapping_refusal, start_refusal, StartKind, stream_refusal, OverlappingState, GivesNext, Streaming, initial_stream, Engine, built_of, searcher_of, states_of, Supports, Searcher, listed_in, stands_in, HasBegun, HasBegunInPieces, no_pieces}
+use Rattle.ac_search.specs.Prelude.{AnswersUnless, Both, find_refusal, MatchError, No, overlapping_refusal, start_refusal, StartKind, stream_refusal, OverlappingState, GivesNext, Streaming, initial_stream, Engine, built_of, searcher_of, states_of, Supports, Searcher, listed_in, stands_in, HasBegun, HasBegunInPieces, HasBegunPieceListing, no_pieces, nothing_listed, PieceListing, piece_listing_refusal}
 use Rattle.ac_automaton.specs.Util.{InputView, Built, search_in}
 
 -- a find or a walk is refused for its start alone
@@ -43,6 +43,14 @@ pub pieces-served : (engine : Built) (start_kind : StartKind)
     → (stream_refusal (record engine { start_kind = start_kind }) ≡ None)
     × HasBegunInPieces (record engine { start_kind = start_kind }) finder
 pieces-served engine start_kind supports free finder none begun = grind (arith, common_steps)
+
+-- so is the listing of such a text
+pub piece-listing-served : (engine : Built) (start_kind : StartKind)
+    → (engine.start_kind ≡ Both) ⊎ (engine.start_kind ≡ start_kind) → start_refusal start_kind No ≡ None
+    → (finder : PieceListing) → piece_listing_refusal engine ≡ None → finder ≡ nothing_listed engine
+    → (piece_listing_refusal (record engine { start_kind = start_kind }) ≡ None)
+    × HasBegunPieceListing (record engine { start_kind = start_kind }) finder
+piece-listing-served engine start_kind supports free finder none begun = grind (arith, common_steps)
 
 -- so the item that it gives of a listing is that of its searcher
 module _ {Z : Type 0} (engine : Engine Z) (start_kind : StartKind) (input : InputView) (supports : Supports engine start_kind)

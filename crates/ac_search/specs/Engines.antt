@@ -2,7 +2,7 @@
 use Rattle.std.specs.Prelude.{◌≡◌, ◌⊎◌, Bool, MatchResult, None, Result}
 use Rattle.ac_automaton.specs.Util.{Both, BuildError, Built, StartKind}
 use Rattle.ac_automaton.specs.Builds.{IsRefused}
-use Rattle.ac_automaton.specs.Prelude.{Overlapping, Streaming, Trie, Walking}
+use Rattle.ac_automaton.specs.Prelude.{Overlapping, PieceListing, Streaming, Trie, Walking}
 use Rattle.ac_search.specs.declared.ahocorasick.choice.AhoCorasickKind.{AhoCorasickKind}
 use Rattle.ac_search.specs.declared.ahocorasick.choice.AhoCorasickKind.TheVariants.{ContiguousNFA, DFA, NoncontiguousNFA}
 use Rattle.ac_search.specs.declared.ahocorasick.engine.Engine.{Engine}
@@ -11,6 +11,8 @@ use Rattle.ac_search.specs.declared.ahocorasick.engine.EngineFindIter.{EngineFin
 use Rattle.ac_search.specs.declared.ahocorasick.engine.EngineFindIter.TheVariants.{Contiguous as ByContiguous, Dfa as ByDfa, Noncontiguous as ByNoncontiguous}
 use Rattle.ac_search.specs.declared.ahocorasick.engine.EngineFindOverlappingIter.{EngineFindOverlappingIter}
 use Rattle.ac_search.specs.declared.ahocorasick.engine.EngineFindOverlappingIter.TheVariants.{Contiguous as ListedByContiguous, Dfa as ListedByDfa, Noncontiguous as ListedByNoncontiguous}
+use Rattle.ac_search.specs.declared.ahocorasick.engine.EngineOverlappingPieceFinder.{EngineOverlappingPieceFinder}
+use Rattle.ac_search.specs.declared.ahocorasick.engine.EngineOverlappingPieceFinder.TheVariants.{Contiguous as PiecesListedByContiguous, Dfa as PiecesListedByDfa, Noncontiguous as PiecesListedByNoncontiguous}
 use Rattle.ac_search.specs.declared.ahocorasick.engine.EnginePieceFinder.{EnginePieceFinder}
 use Rattle.ac_search.specs.declared.ahocorasick.engine.EnginePieceFinder.TheVariants.{Contiguous as InPiecesByContiguous, Dfa as InPiecesByDfa, Noncontiguous as InPiecesByNoncontiguous}
 use Rattle.ac_search.specs.declared.ahocorasick.engine.EngineStreamFinder.{EngineStreamFinder}
@@ -82,6 +84,11 @@ abbrev pub in_pieces : {Z : Type 0} → EnginePieceFinder Z → Streaming
 in_pieces (InPiecesByNoncontiguous finder) = finder
 in_pieces (InPiecesByContiguous finder) = finder
 in_pieces (InPiecesByDfa finder) = finder
+
+abbrev pub piece_listing_in : {Z : Type 0} → EngineOverlappingPieceFinder Z → PieceListing
+piece_listing_in (PiecesListedByNoncontiguous finder) = finder
+piece_listing_in (PiecesListedByContiguous finder) = finder
+piece_listing_in (PiecesListedByDfa finder) = finder
 
 abbrev pub streaming_in : {Y Z : Type 0} → EngineStreamFinder Y Z → Streaming
 streaming_in (StreamedByNoncontiguous finder) = finder

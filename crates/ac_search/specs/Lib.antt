@@ -32,6 +32,7 @@ pub use Rattle.ac_automaton.specs.Answers
 pub use Rattle.ac_automaton.specs.Finds
 pub use Rattle.ac_automaton.specs.Iterators
 pub use Rattle.ac_automaton.specs.Overlaps
+pub use Rattle.ac_automaton.specs.OverlappingPieces
 pub use Rattle.ac_automaton.specs.Pieces
 pub use Rattle.ac_automaton.specs.Streams
 -- tries, and the classes, rows and words of the DFA and the contiguous NFA

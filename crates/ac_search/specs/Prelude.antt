@@ -18,6 +18,7 @@ pub use Rattle.ac_util.specs.declared.search.StartKind.{StartKind}
 pub use Rattle.ac_util.specs.declared.search.StartKind.TheVariants.{Both}
 pub use Rattle.ac_automaton.specs.Answers.{Calling}
 pub use Rattle.ac_automaton.specs.Overlaps.{GivesNext}
+pub use Rattle.ac_automaton.specs.OverlappingPieces.{PieceListing, nothing_listed, piece_listing_refusal}
 pub use Rattle.ac_automaton.specs.Pieces.{no_pieces}
 pub use Rattle.ac_automaton.specs.Streams.{EndsNow, GivesError, GivesNextMatch, GivesNone, GoesOnBy, IsSettledIn, KeepsGiven, Streaming, initial_stream}
 pub use Rattle.ac_automaton.specs.declared.automaton.overlap.OverlappingState.{OverlappingState}
@@ -29,6 +30,6 @@ pub use Rattle.ac_search.specs.Engines.{Supports, built_of, searcher_of, states_
 pub use Rattle.ac_search.specs.Input.{InputView, whole_input}
 pub use Rattle.ac_search.specs.Listing.{all, item_at, place_after}
 pub use Rattle.ac_search.specs.Occurrence.{Occurrence}
-pub use Rattle.ac_search.specs.Searchers.{HasBegun, HasBegunInPieces, HasPlace, Searcher, listed_in, rank_in, stands_in, with_start}
+pub use Rattle.ac_search.specs.Searchers.{HasBegun, HasBegunInPieces, HasBegunPieceListing, HasPlace, Searcher, listed_in, rank_in, stands_in, with_start}
 pub use Rattle.ac_search.specs.StreamLoops.{BeginsUnderway, GivenStay, HasGivenAll, HasGivenOne, HasStoppedAt, IsUnderway, given_matches}
 pub use Rattle.ac_search.specs.declared.ahocorasick.engine.Engine.{Engine}

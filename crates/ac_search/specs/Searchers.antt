@@ -12,6 +12,7 @@ use Rattle.ac_automaton.specs.Iterators.{Walking, initial_walk}
 use Rattle.ac_automaton.specs.Overlaps.{Overlapping, initial_listing, GivesNext, given_by}
 use Rattle.ac_search.specs.declared.ahocorasick.choice.AhoCorasickKind.{AhoCorasickKind}
 use Rattle.ac_search.specs.declared.ahocorasick.choice.AhoCorasickKind.TheVariants.{ContiguousNFA, DFA, NoncontiguousNFA}
+use Rattle.ac_automaton.specs.OverlappingPieces.{PieceListing, nothing_listed}
 use Rattle.ac_automaton.specs.Pieces.{no_pieces}
 use Rattle.ac_automaton.specs.Streams.{StreamReading, Streaming, initial_stream}
 use Rattle.ac_automaton.specs.declared.automaton.overlap.OverlappingState.{OverlappingState}
@@ -159,6 +160,10 @@ HasBegun built stream = (start : StartKind) × (stream ≡ initial_stream (with_
 -- the same of a text that comes in pieces
 abbrev pub HasBegunInPieces : Built → Streaming → Type 0
 HasBegunInPieces built text = (start : StartKind) × (text ≡ no_pieces (with_start built start))
+
+-- and of the listing of such a text
+abbrev pub HasBegunPieceListing : Built → PieceListing → Type 0
+HasBegunPieceListing built text = (start : StartKind) × (text ≡ nothing_listed (with_start built start))
 
 -- an iterator begins with one, over what its reader has left
 abbrev pub HasBegunOver : Built → Reading → StreamReading → Type 0

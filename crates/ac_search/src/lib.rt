@@ -46,8 +46,8 @@ pub use ac_util::primitives::{
 pub use ac_util::search::{Anchored, Input, Match, MatchKind, Span, StartKind};
 pub use ac_util::tally::Tally;
 pub use ahocorasick::{
-    AhoCorasick, AhoCorasickBuilder, AhoCorasickKind, FindIter, FindOverlappingIter, PieceFinder,
-    StreamFindIter, StreamFinder, choose_kind,
+    AhoCorasick, AhoCorasickBuilder, AhoCorasickKind, FindIter, FindOverlappingIter,
+    OverlappingPieceFinder, PieceFinder, StreamFindIter, StreamFinder, choose_kind,
 };
 pub use texts::patterns_of;
 

@@ -62,7 +62,7 @@ impl<'a, A: Automaton> Scanner<'a, A> {
     /// Takes the next match of the current state, or returns None where there is none.
     // The match isn't made by `match_ending`, which would look the length up a second time.
     #[inline]
-    fn take_due(&self, reached: &mut Reached) -> Option<Match>
+    pub(super) fn take_due(&self, reached: &mut Reached) -> Option<Match>
         requires { (bytes : List ℕ)
             × IsListed (scanner A.seen self.now).scan (in_memory bytes (scanner A.seen self.now).span) reached.old }
         ensures { TakesDue (scanner A.seen self.now) reached.old result reached.new }

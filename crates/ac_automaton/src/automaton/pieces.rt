@@ -1,8 +1,9 @@
 //! The search of a text that comes in pieces, each of which is handed to it.
-ghost use Rattle.std.specs.Prelude.{◌≡◌, ◌++◌, false, IfSome};
+ghost use Rattle.std.specs.Prelude.{◌≡◌, ◌++◌, false, IfOk, IfSome};
 ghost use Rattle.ac_automaton.specs.Util.{No};
 ghost use Rattle.ac_automaton.specs.Answers.{BeginsStream};
 ghost use Rattle.ac_automaton.specs.Automata.{IsLiveState};
+ghost use Rattle.ac_automaton.specs.Commits.{HasCommits};
 ghost use Rattle.ac_automaton.specs.Pieces.{TakesOn, hand_bytes, most_of, no_pieces};
 ghost use Rattle.ac_automaton.specs.Reads.{in_hand};
 ghost use Rattle.ac_automaton.specs.StreamInside.{ReadsThrough};
@@ -19,7 +20,7 @@ use ac_util::looks::Looks;
 use ac_util::primitives::StateID;
 use ac_util::search::{Anchored, Match, MatchKind};
 use ac_util::tally::Tally;
-use std::alloc::Allocator;
+use std::alloc::{AllocError, Allocator};
 use std::marker::Model;
 use std::sync::Arc;
 
@@ -82,12 +83,7 @@ impl<A: Automaton + Drop, Z: Allocator> PieceFinder<A, Z> {
         let longest = lent.max_pattern_len();
         let stops = matches!(lent.match_kind(), MatchKind::Standard);
         Ok(PieceFinder {
-            shared: SharedCore {
-                automaton: automaton.clone()?,
-                commits: lent.shared_commits().clone()?,
-                start,
-                stops,
-            },
+            shared: SharedCore::of(automaton, start, stops)?,
             reserve: most_kept(stops, longest),
             state: start,
             read: 0,
@@ -159,17 +155,39 @@ impl<A: Automaton + Drop, Z: Allocator> PieceFinder<A, Z> {
 /// What a core is made of that a search shares: its automaton with the commits, the state at which it begins, and whether it stops at
 /// a match.
 #[derive(Drop)]
-struct SharedCore<A: Automaton + Drop, Z: Allocator> {
-    automaton: Arc<A, Z>,
-    commits: Arc<Commits<A::Memory>, A::Memory>,
-    start: StateID,
-    stops: bool,
+pub(super) struct SharedCore<A: Automaton + Drop, Z: Allocator> {
+    pub(super) automaton: Arc<A, Z>,
+    pub(super) commits: Arc<Commits<A::Memory>, A::Memory>,
+    pub(super) start: StateID,
+    pub(super) stops: bool,
 }
 
 impl<A: Automaton + Drop, Z: Allocator> SharedCore<A, Z> {
+    /// Returns what an automaton's core is made of that begins at a state, and stops at a match or not.
+    ///
+    /// # Errors
+    /// `AllocError` where more of them share the automaton than a `usize` counts.
+    pub(super) fn of(
+        automaton: &Arc<A, Z>,
+        start: StateID,
+        stops: bool,
+    ) -> Result<SharedCore<A, Z>, AllocError>
+        ensures automaton { IfOk result (λ core. core.automaton.value ≡ automaton.now.value) }
+        ensures commits { IfOk result (λ core. HasCommits (A.seen automaton.now.value) core.commits.value) }
+        ensures start { IfOk result (λ core. core.start ≡ start) }
+        ensures stops { IfOk result (λ core. core.stops ≡ stops) }
+    {
+        Ok(SharedCore {
+            automaton: automaton.clone()?,
+            commits: automaton.as_ref().shared_commits().clone()?,
+            start,
+            stops,
+        })
+    }
+
     /// Returns the core, which skips nothing.
     #[inline]
-    fn core(&self) -> Core<'_, A>
+    pub(super) fn core(&self) -> Core<'_, A>
         ensures automaton { result.automaton.now ≡ self.now.automaton.value }
         ensures commits { result.commits.now ≡ self.now.commits.value }
         ensures start { result.start ≡ self.now.start }

@@ -1,7 +1,7 @@
 //! The engines of a searcher and their iterators.
 ghost use Rattle.std.specs.Prelude.{◌≡◌, IfOk};
-ghost use Rattle.ac_automaton.specs.Prelude.{common_of, GivesRead, GoesOn, kept_len, ListsNext, Streams, TakesOn};
-ghost use Rattle.ac_search.specs.Engines.{built_of, wants_prefilter_of, in_pieces, listing_in, name_of, states_of, streaming_in, walking_in};
+ghost use Rattle.ac_automaton.specs.Prelude.{common_of, GivesRead, GoesOn, kept_len, ListsNext, ListsTaken, Streams, TakesOn};
+ghost use Rattle.ac_search.specs.Engines.{built_of, wants_prefilter_of, in_pieces, listing_in, name_of, piece_listing_in, states_of, streaming_in, walking_in};
 ghost use Rattle.ac_automaton.specs.Streams.{on};
 ghost use Rattle.ac_automaton.specs.declared.automaton.stream_settled.Phase.TheVariants.{Ended};
 
@@ -190,6 +190,24 @@ impl<A: Allocator> EnginePieceFinder<A> {
         ensures { result ≡ (in_pieces self.now).kept }
     {
         by_engine!(EnginePieceFinder, self, finder => finder.settled())
+    }
+}
+
+/// An engine's overlapping search of a text that comes in pieces.
+#[derive(Drop)]
+pub(super) enum EngineOverlappingPieceFinder<A: Allocator> {
+    Noncontiguous(automaton::OverlappingPieceFinder<noncontiguous::NFA<A>, A>),
+    Contiguous(automaton::OverlappingPieceFinder<contiguous::NFA<A>, A>),
+    Dfa(automaton::OverlappingPieceFinder<dfa::DFA<A>, A>),
+}
+
+impl<A: Allocator> EngineOverlappingPieceFinder<A> {
+    /// Returns the next match, and takes of the piece what that needs.
+    #[inline]
+    pub(super) fn next(&mut self, piece: &mut &[u8]) -> Option<Match>
+        ensures { ListsTaken (piece_listing_in self.old) piece.old.now result (piece_listing_in self.new) piece.new.now }
+    {
+        by_engine!(EngineOverlappingPieceFinder, self, finder => finder.next(piece))
     }
 }
 

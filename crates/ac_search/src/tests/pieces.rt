@@ -1,14 +1,18 @@
-//! Searches of texts that come in pieces: however a text is cut, each engine finds what rows say.
+//! Searches of texts that come in pieces: however a text is cut, each engine finds what rows say, and lists what it lists of the
+//! whole.
 ghost use Rattle.std.specs.Prelude.{◌≤◌, length};
 
 use super::devices::End;
 use super::engines::{EACH, Engine, FEWER, builder_of, engines};
 use super::stream::Walks;
 use super::stream_rows::WALKS;
-use super::{Triple, same, same_by, triple_of};
-use crate::MatchKind::LeftmostLongest;
+use super::{Triple, same, same_by, triple_of, triples_of};
+use crate::MatchKind::{LeftmostLongest, Standard};
 use crate::StartKind::{Anchored, Unanchored};
-use crate::{AhoCorasick, AhoCorasickBuilder, Match, MatchError, PieceFinder, StreamError};
+use crate::{
+    AhoCorasick, AhoCorasickBuilder, Input, Match, MatchError, OverlappingPieceFinder, PieceFinder,
+    StreamError,
+};
 use std::alloc::{AllocError, Global};
 use std::process::Abort;
 use std::test::Fail;
@@ -145,6 +149,134 @@ fn searches_of_pieces_are_refused_as_streams_are(rt: HostRuntime) -> Result<(), 
             .start_kind(Anchored)
             .build(rt.alloc(), &[b"a".as_slice(), b""])?;
         let refused = anchored.try_piece_finder().err();
+        let unanchored = matches!(
+            refused,
+            Some(StreamError::Match(MatchError::InvalidInputUnanchored))
+        );
+        same(&rt, unanchored, true);
+    }
+    Ok(())
+}
+
+/// More matches than a text below has in its listing.
+const MOST_LISTED: usize = 16;
+
+/// Patterns and a text: some that are one, some that end together, and one that no piece has whole.
+const LISTINGS: &[(&[&[u8]], &[u8])] = &[
+    (&[b"he", b"she", b"his", b"hers"], b"ushershis"),
+    (&[b"ab", b"b", b"ab", b"bab"], b"ababb"),
+    (&[b"a", b"aa", b"aaa", b"aaaa"], b"aaaaa"),
+    (&[b"abcdefg", b"cde", b"x"], b"abcdefgh"),
+    (&[b"abc"], b"xyz"),
+];
+
+/// Adds the matches that a listing gives of a piece, and returns whether it has taken the piece whole.
+fn list_of(
+    finder: &mut OverlappingPieceFinder,
+    piece: &[u8],
+    listed: &mut Vec<Triple>,
+) -> Result<bool, AllocError> {
+    let mut left = piece;
+    for _ in 0..MOST_LISTED {
+        match finder.next(&mut left) {
+            Some(found) => listed.push(triple_of(&found))?,
+            None => return Ok(left.is_empty()),
+        }
+    }
+    Ok(false)
+}
+
+/// Compares the listing of a text that is cut at two offsets with that of the whole.
+fn compare_listed(
+    rt: &impl Abort,
+    alloc: Global,
+    searcher: &AhoCorasick,
+    text: &[u8],
+    cuts: (usize, usize),
+    wanted: &[Triple],
+) -> Result<(), Fail>
+    requires ordered { cuts.0 ≤ cuts.1 }
+    requires inside { cuts.1 ≤ length text.now }
+{
+    let (first, second) = cuts;
+    let mut finder = searcher.try_overlapping_piece_finder()?;
+    let mut listed = Vec::new(alloc);
+    for piece in [&text[..first], &text[first..second], &text[second..], b""] {
+        same(rt, list_of(&mut finder, piece, &mut listed)?, true);
+    }
+    same_by(rt, listed.as_slice(), wanted, searcher);
+    Ok(())
+}
+
+/// Compares the listing of a text that is cut in three in every way with that of the whole.
+fn compare_listings(
+    rt: &impl Abort,
+    alloc: Global,
+    searcher: &AhoCorasick,
+    text: &[u8],
+) -> Result<(), Fail> {
+    let whole = triples_of(alloc, searcher.try_find_overlapping_iter(Input::new(text))?)?;
+    for second in 0..text.len() + 1 {
+        for first in 0..second + 1 {
+            compare_listed(rt, alloc, searcher, text, (first, second), &whole)?;
+        }
+    }
+    Ok(())
+}
+
+/// Each engine lists of each text what it lists of the whole, however it is cut in three.
+#[test]
+fn listings_are_cut_in_every_way(rt: HostRuntime) -> Result<(), Fail> {
+    for engine in &engines(rt.alloc(), FEWER)? {
+        for &(patterns, text) in LISTINGS {
+            let searcher = builder_of(engine, Standard, Unanchored).build(rt.alloc(), patterns)?;
+            compare_listings(&rt, rt.alloc(), &searcher, text)?;
+        }
+    }
+    Ok(())
+}
+
+/// A match is given as soon as its last byte was taken, also of two patterns that are one, and nothing more is taken.
+#[test]
+fn occurrences_are_given_once_they_end(rt: HostRuntime) -> Result<(), Fail> {
+    let searcher = AhoCorasick::new(rt.alloc(), &[b"ab".as_slice(), b"b", b"ab"])?;
+    let mut finder = searcher.try_overlapping_piece_finder()?;
+    let mut left = b"a".as_slice();
+    same(&rt, finder.next(&mut left), None);
+    let mut left = b"bc".as_slice();
+    same(&rt, finder.next(&mut left), Some(Match::must(0, 0..2)));
+    same(&rt, left, b"c".as_slice());
+    same(&rt, finder.next(&mut left), Some(Match::must(2, 0..2)));
+    same(&rt, left, b"c".as_slice());
+    let mut none = b"".as_slice();
+    same(&rt, finder.next(&mut none), Some(Match::must(1, 1..2)));
+    same(&rt, finder.next(&mut none), None);
+    same(&rt, finder.next(&mut left), None);
+    same(&rt, left, b"".as_slice());
+    Ok(())
+}
+
+/// A listing of pieces is refused for its start first, then for its match kind, and then for an empty pattern.
+#[test]
+fn listings_of_pieces_are_refused(rt: HostRuntime) -> Result<(), Fail> {
+    for &kind in EACH {
+        let mut builder = AhoCorasickBuilder::new();
+        let empty = builder
+            .match_kind(kind)
+            .build(rt.alloc(), &[b"a".as_slice(), b""])?;
+        let refused = match empty.try_overlapping_piece_finder().err() {
+            Some(StreamError::Match(refused)) => Some(refused),
+            _ => None,
+        };
+        let wanted = match kind {
+            Standard => MatchError::UnsupportedEmpty,
+            got => MatchError::UnsupportedOverlapping { got },
+        };
+        same(&rt, refused, Some(wanted));
+        let anchored = builder
+            .start_kind(Anchored)
+            .build(rt.alloc(), &[b"a".as_slice(), b""])?;
+        let refused = anchored.try_overlapping_piece_finder().err();
         let unanchored = matches!(
             refused,
             Some(StreamError::Match(MatchError::InvalidInputUnanchored))

@@ -40,3 +40,19 @@ fn listings_that_are_supported(rt: HostRuntime) -> Result<(), Fail> {
     are_equal!(rt; matches.next(), Some(Match::must(0, 0..6)));
     Ok(())
 }
+
+#[test]
+fn listings_of_pieces(rt: HostRuntime) -> Result<(), Fail> {
+    let alloc = rt.alloc();
+    let searcher = AhoCorasick::new(alloc, &[b"append", b"app", b"pen"])?;
+    let mut finder = searcher.try_overlapping_piece_finder()?;
+    let mut piece = b"appe".as_slice();
+    are_equal!(rt; finder.next(&mut piece), Some(Match::must(1, 0..3)));
+    are_equal!(rt; piece, b"e".as_slice()); // it is handed over again
+    are_equal!(rt; finder.next(&mut piece), None); // all of it was taken
+    let mut piece = b"nd".as_slice();
+    are_equal!(rt; finder.next(&mut piece), Some(Match::must(2, 2..5)));
+    are_equal!(rt; finder.next(&mut piece), Some(Match::must(0, 0..6)));
+    are_equal!(rt; finder.next(&mut piece), None);
+    Ok(())
+}

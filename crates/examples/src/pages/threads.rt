@@ -6,9 +6,10 @@ use ac_search::plain::Query;
 use ac_search::{
     AhoCorasick, AhoCorasickBuilder, AhoCorasickKind, Anchored, BuildError, ByteClasses, Bytes,
     Candidate, FindIter, FindOverlappingIter, Finder, FirstBytes, FromRead, Input, IntoWrite,
-    Looks, Match, MatchError, MatchKind, MatchRest, Needle, OverlappingState, PatternID, Patterns,
-    Phase, PieceFinder, Prefilter, ReplaceError, Span, StartKind, StateID, StreamError,
-    StreamFindIter, StreamFinder, Tally, Tape, TooLarge, WriteError, Written, dfa,
+    Looks, Match, MatchError, MatchKind, MatchRest, Needle, OverlappingPieceFinder,
+    OverlappingState, PatternID, Patterns, Phase, PieceFinder, Prefilter, ReplaceError, Span,
+    StartKind, StateID, StreamError, StreamFindIter, StreamFinder, Tally, Tape, TooLarge,
+    WriteError, Written, dfa,
 };
 use std::alloc::{Allocator, Global};
 use std::io::{Read, Write};
@@ -56,6 +57,7 @@ fn streams_cross_threads() {
     crosses::<StreamFinder<'_>>();
     crosses::<StreamFindIter<'_, Bytes<'_>>>();
     crosses::<PieceFinder>();
+    crosses::<OverlappingPieceFinder>();
 }
 
 #[test]

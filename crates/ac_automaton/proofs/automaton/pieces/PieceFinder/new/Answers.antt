@@ -1,5 +1,5 @@
-use Rattle.ac_util.proofs.Prelude.{◌≡◌, ◌∙◌, sym, ap, subst, not, rules}
-use Rattle.ac_automaton.specs.Prelude.{HasCommits, is_leftmost, MatchKind}
+use Rattle.ac_util.proofs.Prelude.{◌≡◌, ◌∙◌, sym, ap, not, rules}
+use Rattle.ac_automaton.specs.Prelude.{is_leftmost, MatchKind}
 use Rattle.ac_automaton.proofs.Places.{refused-by}
 use Rattle.ac_automaton.proofs.Pieces.{fed-begins}
 use Rattle.ac_automaton.proofs.StreamBegins.{most-kept, not-leftmost}
@@ -10,11 +10,8 @@ use Rattle.ac_automaton.proofs.automaton.pieces.PieceFinder.new.Goals as goal
 pub returns-then-min_pattern_len-eq0 : goal.returns-then-min_pattern_len-eq0
 returns-then-min_pattern_len-eq0 g c = search (rules, refused-empty)
 
-pub returns-in_err-clone : goal.returns-in_err-clone
-returns-in_err-clone g c = search (rules, not-refused, refused-by)
-
-pub returns-in_err-clone-2 : goal.returns-in_err-clone-2
-returns-in_err-clone-2 g c = search (rules, not-refused, refused-by)
+pub returns-in_err-of : goal.returns-in_err-of
+returns-in_err-of g c = search (rules, not-refused, refused-by)
 
 pub invariant_of-result : goal.invariant_of-result
 invariant_of-result g c =
@@ -29,11 +26,11 @@ invariant_of-result g c =
           w.matches-is
           ∙ sym (ap not (not-leftmost kind (λ standard. w.in_default.not-Standard (c.match_kind.ensures ∙ standard))))
     ] in
-    rw (c.in_ok-clone.ensures.cases, ← c.as_ref-lent.ensures) (fed-begins (seen shared) c.in_ok-clone-2.field-0.value
-    (subst (HasCommits (seen shared)) (sym c.in_ok-clone-2.ensures.cases) c.shared_commits.ensures) allowed c.in_ok-start.start
-    c.in_ok-start.ensures.1 c.match-matches.matches c.most_kept.result stops
-    (c.most_kept.ensures ∙ most-kept (seen shared).built _ _ stops c.max_pattern_len-longest.ensures) c.of.ensures c.zero.ensures
-    c.empty.ensures)
+    let core = c.in_ok-of.ensures in
+    rw (core.automaton, core.start, core.stops, ← c.as_ref-lent.ensures) (fed-begins (seen shared)
+    c.in_ok-of.field-0.commits.value (rw (c.as_ref-lent.ensures) (core.commits)) allowed c.in_ok-start.start c.in_ok-start.ensures.1
+    c.match-matches.matches c.most_kept.result stops (c.most_kept.ensures
+    ∙ most-kept (seen shared).built _ _ stops c.max_pattern_len-longest.ensures) c.of-2.ensures c.zero.ensures c.empty.ensures)
 
 pub returns : goal.returns
 returns g c = search (rules, not-refused)

@@ -1,8 +1,8 @@
-use Rattle.ac_util.proofs.Prelude.{◌≡◌, ℕ, ◌+◌, ◌-◌, ◌++◌, List, [], length, take, drop, Option, None, Some, refl, ap, sym, subst, ◌∙◌, arith, rules}
+use Rattle.ac_util.proofs.Prelude.{◌≡◌, ℕ, ◌+◌, ◌-◌, ◌++◌, List, [], length, take, drop, None, Some, refl, ap, sym, subst, ◌∙◌, arith}
 use Rattle.std.proofs.lemmas.List.{take_rest}
-use Rattle.ac_automaton.specs.Prelude.{AutomatonView, CommitsView, GivesAt, IsFed, Node, No, ReadsThrough, SettlesBy, TakesFrom, TakesOn, Streaming, hand_bytes, in_hand, inside_of, matches_of, most_of, pending, scan_of, streaming_by, ChainMatch, ChainRest}
-use Rattle.ac_automaton.proofs.Pieces.{count, more}
-use Rattle.ac_automaton.proofs.PieceSteps.{end, fed-as, fed-given, fed-held, fed-known, fits, settled, takes-as, takes-given, takes-known, takes-none, within}
+use Rattle.ac_automaton.specs.Prelude.{AutomatonView, CommitsView, GivesAt, IsFed, Node, No, SettlesBy, TakesFrom, in_hand, inside_of, matches_of, most_of, pending, streaming_by, ChainMatch, ChainRest}
+use Rattle.ac_automaton.proofs.Pieces.{count}
+use Rattle.ac_automaton.proofs.PieceSteps.{fed-as, fed-given, fed-held, fed-known, fits, settled, takes-as, takes-given, takes-known, takes-none, within}
 use Rattle.ac_automaton.proofs.StreamKnown.{may-take-known}
 use Rattle.ac_automaton.proofs.StreamNext.{core-is}
 use Rattle.ac_automaton.proofs.automaton.pieces.PieceFinder.next.Given.{Over}

@@ -1,4 +1,4 @@
-use Rattle.ac_util.proofs.Prelude.{◌≡◌, ◌∙◌, true, refl, length, sym, ap, arith, not, rules, common_steps}
+use Rattle.ac_util.proofs.Prelude.{◌≡◌, ◌∙◌, refl, length, sym, ap, arith, not, rules, common_steps}
 use Rattle.ac_automaton.specs.Prelude.{buffer_len, is_leftmost, MatchKind}
 use Rattle.ac_automaton.proofs.Places.{refused-by}
 use Rattle.ac_automaton.proofs.StreamBegins.{buffer-begins, most-kept, not-leftmost, streams-begin}
