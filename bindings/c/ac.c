@@ -9,7 +9,8 @@ _Static_assert(offsetof(struct ac_raw_facts, memory) == 24 && offsetof(struct ac
 _Static_assert(offsetof(ac_span, anchored) == 16 && offsetof(ac_span, earliest) == 20 && sizeof(ac_span) == 24, "spans");
 _Static_assert(offsetof(ac_match, start) == 8 && offsetof(ac_match, end) == 16 && sizeof(ac_match) == 24, "matches");
 _Static_assert(offsetof(ac_cursor, given) == 8 && sizeof(ac_cursor) == 16, "cursors");
-_Static_assert(sizeof(ac_raw_handle) == sizeof(ac_searcher) && sizeof(ac_raw_reader) == sizeof(ac_searcher), "handles");
+_Static_assert(sizeof(ac_raw_handle) == sizeof(ac_searcher) && sizeof(ac_raw_handle) == sizeof(ac_stream) &&
+               sizeof(ac_raw_reader) == sizeof(ac_searcher), "handles");
 
 /* A slice that may be null where it is empty. */
 static int is_slice(const void *at, size_t len) {
@@ -48,14 +49,16 @@ const char *ac_error_text(int32_t status) {
     case AC_LIMIT: return "too many patterns, a pattern too long, or too many states";
     case AC_ANCHORED: return "the searcher doesn't support anchored searches";
     case AC_UNANCHORED: return "the searcher doesn't support unanchored searches";
-    case AC_OVERLAPPING: return "overlapping searches need the match kind AC_STANDARD";
+    case AC_OVERLAPPING: return "overlapping searches and listings need the match kind AC_STANDARD";
+    case AC_EMPTY_PATTERN: return "a text in pieces can't be searched for an empty pattern";
     default: return "no such status";
     }
 }
 
 int32_t ac_open(const ac_options *options, const void *bytes, size_t bytes_len, const size_t *ends, size_t ends_len,
                 ac_searcher *out) {
-    if (!options || options->size != sizeof *options || !is_slice(bytes, bytes_len) || !is_slice(ends, ends_len) || !out || out->at)
+    if (!options || options->size != sizeof *options || !is_slice(bytes, bytes_len) || !is_slice(ends, ends_len) || !out ||
+        out->at)
         return AC_ARGUMENTS;
     struct ac_raw_options settings = {options->match_kind, options->start_kind, options->engine, options->ignore_case,
                                       options->prefilter, options->byte_classes, options->dense_depth};
@@ -145,4 +148,61 @@ int32_t ac_replace(const ac_searcher *searcher, const void *haystack, size_t hay
     ac_raw_reader reader = reader_of(searcher);
     return ac_raw_replace(&reader, slice(haystack), haystack_len, slice(bytes), bytes_len, slice(ends), ends_len,
                           out ? out : &none, out_len, needed);
+}
+
+static int is_stream(const ac_stream *stream) {
+    return stream && stream->at;
+}
+
+int32_t ac_stream_open(const ac_searcher *searcher, uint32_t mode, ac_stream *out) {
+    if (!is_open(searcher) || !out || out->at)
+        return AC_ARGUMENTS;
+    ac_raw_reader reader = reader_of(searcher);
+    ac_raw_handle handle = {0};
+    int32_t status = ac_raw_stream_open(&reader, mode, &handle);
+    out->at = handle.at;
+    return status;
+}
+
+int32_t ac_stream_feed(ac_stream *stream, const void *piece, size_t piece_len, size_t *taken, ac_match *out, size_t out_len,
+                       size_t *filled) {
+    ac_match none;
+    if (taken)
+        *taken = 0;
+    if (filled)
+        *filled = 0;
+    if (!is_stream(stream) || !is_slice(piece, piece_len) || !taken || !is_slice(out, out_len) || !filled)
+        return AC_ARGUMENTS;
+    ac_raw_handle handle = {stream->at};
+    int32_t status = ac_raw_stream_feed(&handle, slice(piece), piece_len, taken, out ? out : &none, out_len, filled);
+    stream->at = handle.at;
+    return status;
+}
+
+int32_t ac_stream_end(ac_stream *stream, ac_match *out, size_t out_len, size_t *filled) {
+    ac_match none;
+    if (filled)
+        *filled = 0;
+    if (!is_stream(stream) || !is_slice(out, out_len) || !filled)
+        return AC_ARGUMENTS;
+    ac_raw_handle handle = {stream->at};
+    int32_t status = ac_raw_stream_end(&handle, out ? out : &none, out_len, filled);
+    stream->at = handle.at;
+    return status;
+}
+
+int32_t ac_stream_reset(ac_stream *stream) {
+    if (!is_stream(stream))
+        return AC_ARGUMENTS;
+    ac_raw_handle handle = {stream->at};
+    int32_t status = ac_raw_stream_reset(&handle);
+    stream->at = handle.at;
+    return status;
+}
+
+void ac_stream_close(ac_stream *stream) {
+    if (!is_stream(stream))
+        return;
+    ac_raw_close((ac_raw_handle){stream->at});
+    stream->at = 0;
 }

@@ -29,12 +29,12 @@
      there. If the length is 0 the pointer may be null.
    - What a call writes overlaps nothing else that the same call reads or writes. No call writes to what it only reads.
    - A searcher is empty, which is all zero, or comes from ac_open or ac_clone and wasn't closed. A copy of the struct is the
-     same searcher: closing one closes both.
+     same searcher: closing one closes both. So it is with a stream, which comes from ac_stream_open.
 
    Threads. Any number of them may use one searcher at once, in the calls that take a `const ac_searcher *`: they leave it
    as it was, and no search waits for another. The caller owes that
-   - what one call writes (a cursor, matches, numbers, another searcher) no other call uses meanwhile: a walk or a listing is
-     for one thread at a time, but many walks may go over one searcher at once;
+   - what one call writes (a cursor, matches, numbers, a stream, another searcher) no other call uses meanwhile: a walk, a listing
+     or a stream is for one thread at a time, but many of them may go over one searcher at once;
    - ac_close waits for all: it is called once every other call with this searcher has returned;
    - between threads these are ordered, as the use of a searcher after ac_open or ac_clone is: by the start or the join of a
      thread, a lock, or an atomic of memory_order_seq_cst;
@@ -51,8 +51,8 @@ extern "C" {
 /* major * 10000 + minor * 100 + patch; ac_version() returns that of the library that was linked. */
 #define AC_VERSION 100
 
-/* What a call returns. Below 0 it is an error: the call has done nothing, except that *filled is 0. So what is found can be tested
-   by `ac_find(..) > 0`. */
+/* What a call returns. Below 0 it is an error: the call has done nothing, except that *filled is 0. So what is found can be
+   tested by `ac_find(..) > 0`. */
 enum {
     AC_OK = 0,           /* done; nothing was found, where something is looked for */
     AC_FOUND = 1,        /* something was found */
@@ -61,7 +61,8 @@ enum {
     AC_LIMIT = -3,       /* too many patterns, a pattern too long, or too many states */
     AC_ANCHORED = -4,    /* the searcher doesn't support anchored searches */
     AC_UNANCHORED = -5,  /* the searcher doesn't support unanchored searches */
-    AC_OVERLAPPING = -6  /* overlapping searches need AC_STANDARD */
+    AC_OVERLAPPING = -6, /* overlapping searches and listings need AC_STANDARD */
+    AC_EMPTY_PATTERN = -7 /* a text in pieces can't be searched for an empty pattern */
 };
 
 /* Returns what a status says, in English, or "no such status". The text is the library's. */
@@ -75,9 +76,13 @@ enum { AC_AUTO = 0, AC_NONCONTIGUOUS_NFA = 1, AC_CONTIGUOUS_NFA = 2, AC_DFA = 3 
 typedef struct ac_searcher { void *at; } ac_searcher;
 #define AC_EMPTY { 0 }
 
+/* The search of a text that comes in pieces. Who opens it owns it, and has to close it. */
+typedef struct ac_stream { void *at; } ac_stream;
+enum { AC_WALK = 0, AC_LISTING = 1 };                                                        /* what a stream gives */
+
 /* The settings of a searcher; ignore_case, prefilter and byte_classes are 0 or 1. start_kind says which searches it supports;
-   with ignore_case the two cases of an ASCII letter are the same. engine and the last three change no answer. `size` is that of the
-   struct, so that a later version may have more settings. */
+   with ignore_case the two cases of an ASCII letter are the same. engine and the last three change no answer. `size` is that of
+   the struct, so that a later version may have more settings. */
 typedef struct ac_options {
     size_t size;
     uint32_t match_kind, start_kind, engine, ignore_case, prefilter, byte_classes;
@@ -93,7 +98,8 @@ typedef struct ac_span { size_t start, end; uint32_t anchored, earliest; } ac_sp
 typedef struct ac_match { size_t pattern, start, end; } ac_match;
 /* How far a walk or a listing has come. {0, 0} begins one; any numbers are safe. */
 typedef struct ac_cursor { size_t at, given; } ac_cursor;
-/* engine is never AC_AUTO. Without patterns shortest is SIZE_MAX, and longest is 0. `size` is that of the struct, and its caller's. */
+/* engine is never AC_AUTO. Without patterns shortest is SIZE_MAX, and longest is 0. The caller sets `size` to the size of the
+   struct, as AC_NO_FACTS does. */
 typedef struct ac_facts { size_t size, patterns, shortest, longest, memory; uint32_t engine, match_kind, start_kind; } ac_facts;
 #define AC_NO_FACTS { sizeof(ac_facts), 0, 0, 0, 0, 0, 0, 0 }
 
@@ -101,8 +107,8 @@ uint32_t ac_version(void);
 
 /* Builds a searcher. `bytes` has all patterns one after another: pattern i ends before ends[i], and begins where the one
    before it ended. A pattern may be empty. The searcher keeps a copy of them.
-   AC_OK; AC_ARGUMENTS if an option has no such value, or their size isn't that of ac_options, if ends go down or past bytes_len, or
-   if `out` isn't empty; AC_MEMORY; AC_LIMIT. */
+   AC_OK; AC_ARGUMENTS if an option has no such value, or their size isn't that of ac_options, if ends go down or past bytes_len,
+   or if `out` isn't empty; AC_MEMORY; AC_LIMIT. */
 int32_t ac_open(const ac_options *options, const void *bytes, size_t bytes_len, const size_t *ends, size_t ends_len,
                 ac_searcher *out);
 
@@ -131,13 +137,15 @@ int32_t ac_count(const ac_searcher *searcher, const void *haystack, size_t hayst
 
 /* Writes the next matches of a walk, at most out_len, and how many they are, and moves the cursor past them. A walk has the
    match in the span, then the match in what follows it, and so on; an empty match is left out where the one before it ended.
-   Fewer than out_len are written only if no more follow. AC_OK. Pass the same span and haystack in all calls of a walk. */
+   Fewer than out_len are written only if no more follow. AC_OK. Pass the same span and haystack in all calls of a walk.
+   Under a leftmost kind a call that goes on may read as many bytes again as the longest pattern has. So where out_len is small
+   and patterns are long, as when others choose them, walk by a stream (ac_stream_feed), which reads each byte once. */
 int32_t ac_walk(const ac_searcher *searcher, const void *haystack, size_t haystack_len, const ac_span *span,
                 ac_cursor *cursor, ac_match *out, size_t out_len, size_t *filled);
 
 /* The same for a listing: every occurrence, ordered by end, then start, then number. Also AC_OVERLAPPING if the searcher
    isn't AC_STANDARD, and AC_ANCHORED if the span is anchored. A call that goes on reads as many bytes again as the longest
-   pattern has. */
+   pattern has, and lists what ends in them again: a stream does not. */
 int32_t ac_overlapping(const ac_searcher *searcher, const void *haystack, size_t haystack_len, const ac_span *span,
                        ac_cursor *cursor, ac_match *out, size_t out_len, size_t *filled);
 
@@ -147,6 +155,62 @@ int32_t ac_overlapping(const ac_searcher *searcher, const void *haystack, size_t
    AC_UNANCHORED; AC_MEMORY. */
 int32_t ac_replace(const ac_searcher *searcher, const void *haystack, size_t haystack_len, const void *bytes,
                    size_t bytes_len, const size_t *ends, size_t ends_len, void *out, size_t out_len, size_t *needed);
+
+/* The search of a text that comes in pieces, as from a file or a socket. Each piece is handed to ac_stream_feed, which keeps
+   no byte of it. Found is what ac_walk or ac_overlapping finds in the whole text, however it is cut; offsets count from its
+   beginning. A match is written once no byte to come can change it: in a listing and under AC_STANDARD when its last byte is
+   taken, else at most one byte after that is so. A stream shares the engine of its searcher, which may be closed before it.
+   Only ac_stream_open takes memory. All calls on a stream read each byte once. This finds in standard input, with 64 KiB and
+   no more:
+
+       #include "ac.h"
+       #include <stdio.h>
+       static void print(const ac_match *found, size_t filled) {
+           for (size_t i = 0; i < filled; i++) printf("%zu at %zu..%zu\n", found[i].pattern, found[i].start, found[i].end);
+       }
+       int main(void) {
+           static char piece[65536];
+           size_t len, taken, filled, ends[] = {5, 10, 17};
+           ac_options options = AC_DEFAULTS;
+           ac_searcher searcher = AC_EMPTY;
+           ac_stream stream = AC_EMPTY;
+           ac_match found[64];
+           if (ac_open(&options, "applemapleSnapple", 17, ends, 3, &searcher) < 0) return 1;
+           if (ac_stream_open(&searcher, AC_WALK, &stream) < 0) return 1;
+           while ((len = fread(piece, 1, sizeof piece, stdin)) > 0)
+               for (size_t at = 0; at < len; at += taken) {
+                   ac_stream_feed(&stream, piece + at, len - at, &taken, found, 64, &filled);
+                   print(found, filled);
+               }
+           do {
+               ac_stream_end(&stream, found, 64, &filled);
+               print(found, filled);
+           } while (filled == 64);
+           ac_stream_close(&stream);
+           ac_close(&searcher);
+       } */
+
+/* Begins the search of a text. AC_OK; AC_ARGUMENTS if there is no such mode, or if `out` isn't empty; AC_UNANCHORED if the
+   searcher doesn't support unanchored searches; AC_OVERLAPPING for a listing if it isn't AC_STANDARD; AC_EMPTY_PATTERN;
+   AC_MEMORY. */
+int32_t ac_stream_open(const ac_searcher *searcher, uint32_t mode, ac_stream *out);
+
+/* Takes bytes of a piece, and writes how many to *taken; writes the next matches, at most out_len, and how many they are. What
+   wasn't taken is fed again, before what follows it. Fewer than out_len are written only if the piece was taken whole and no
+   more matches are settled. AC_OK; AC_ARGUMENTS also if the piece isn't empty though ac_stream_end was called. Unless it is
+   AC_OK, *taken and *filled are 0, and the stream is as it was. */
+int32_t ac_stream_feed(ac_stream *stream, const void *piece, size_t piece_len, size_t *taken, ac_match *out, size_t out_len,
+                       size_t *filled);
+
+/* Says that nothing follows, and writes the next of the matches that are left. Fewer than out_len are written only if no more are
+   left; else it is called again. AC_OK. */
+int32_t ac_stream_end(ac_stream *stream, ac_match *out, size_t out_len, size_t *filled);
+
+/* Begins the search of another text, from offset 0. AC_OK. */
+int32_t ac_stream_reset(ac_stream *stream);
+
+/* Frees a stream, and leaves it empty. Does nothing if it is empty or null. */
+void ac_stream_close(ac_stream *stream);
 
 #ifdef __cplusplus
 }

@@ -56,14 +56,32 @@ int32_t ac_raw_replace(ac_raw_reader *searcher, const uint8_t *haystack, size_t 
                     needed);
 }
 
+int32_t ac_raw_stream_open(ac_raw_reader *searcher, uint32_t mode, ac_raw_handle *out) {
+    return is_right(searcher->at && mode == AC_LISTING && out);
+}
+
+int32_t ac_raw_stream_feed(ac_raw_handle *stream, const uint8_t *piece, size_t piece_len, size_t *taken, ac_match *out,
+                           size_t out_len, size_t *filled) {
+    return is_right(stream->at && piece && !piece_len && taken && out && !out_len && filled);
+}
+
+int32_t ac_raw_stream_end(ac_raw_handle *stream, ac_match *out, size_t out_len, size_t *filled) {
+    return is_right(stream->at && out && !out_len && filled);
+}
+
+int32_t ac_raw_stream_reset(ac_raw_handle *stream) {
+    return is_right(stream->at != NULL);
+}
+
 int main(void) {
     const ac_options options = AC_DEFAULTS;
     const ac_span span = AC_WHOLE(0);
     ac_searcher empty = AC_EMPTY, searcher = {&empty};
+    ac_stream none = AC_EMPTY, stream = {&empty};
     ac_cursor cursor = {0, 0};
     ac_match match;
     ac_facts facts = AC_NO_FACTS;
-    size_t number;
+    size_t number, taken;
     const int32_t statuses[] = {
         ac_open(&options, NULL, 0, NULL, 0, &empty),
         ac_clone(&searcher, &empty),
@@ -74,6 +92,10 @@ int main(void) {
         ac_walk(&searcher, NULL, 0, &span, &cursor, NULL, 0, &number),
         ac_overlapping(&searcher, NULL, 0, &span, &cursor, NULL, 0, &number),
         ac_replace(&searcher, NULL, 0, NULL, 0, NULL, 0, NULL, 0, &number),
+        ac_stream_open(&searcher, AC_LISTING, &none),
+        ac_stream_feed(&stream, NULL, 0, &taken, NULL, 0, &number),
+        ac_stream_end(&stream, NULL, 0, &number),
+        ac_stream_reset(&stream),
     };
     int faults = facts.patterns != 1;
     for (size_t i = 0; i < sizeof statuses / sizeof *statuses; i++)

@@ -258,34 +258,55 @@ static void check_sizes(void) {
     ac_close(&searcher);
 }
 
-/* Errors are below 0, each status has a text of its own, and no other number has. */
+/* Errors are below 0, the text of each status has a word that no other one has, and no other number has such a text. */
 static void check_statuses(void) {
-    const char *none = ac_error_text(INT32_MIN);
-    for (int32_t status = AC_OVERLAPPING; status <= AC_FOUND; status++)
-        for (int32_t other = AC_OVERLAPPING - 1; other <= AC_FOUND + 1; other++)
-            CHECK(!strcmp(ac_error_text(status), ac_error_text(other)) == (status == other));
-    CHECK(!strcmp(none, ac_error_text(AC_OVERLAPPING - 1)) && !strcmp(none, ac_error_text(AC_FOUND + 1)));
+    const struct { int32_t status; const char *word; } rows[] = {
+        {AC_OK, "done"}, {AC_FOUND, "found"}, {AC_ARGUMENTS, "argument"}, {AC_MEMORY, "allocation"}, {AC_LIMIT, "too many"},
+        {AC_ANCHORED, " anchored"}, {AC_UNANCHORED, " unanchored"}, {AC_OVERLAPPING, "overlapping"},
+    };
+    const int32_t others[] = {INT32_MIN, AC_OVERLAPPING - 1, AC_FOUND + 1, INT32_MAX};
+    for (size_t i = 0; i < 8; i++)
+        for (size_t k = 0; k < 8; k++)
+            CHECK(!strstr(ac_error_text(rows[i].status), rows[k].word) == (i != k));
+    for (size_t i = 0; i < 4; i++)
+        CHECK(!strcmp(ac_error_text(others[i]), "no such status"));
     CHECK(AC_OK == 0 && AC_FOUND > 0 && AC_ARGUMENTS < 0 && AC_MEMORY < 0 && AC_LIMIT < 0 && AC_ANCHORED < 0 &&
           AC_UNANCHORED < 0 && AC_OVERLAPPING < 0);
 }
 
-/* How much memory a searcher takes with other settings. */
-static size_t memory_by(uint32_t prefilter, uint32_t byte_classes, uint32_t ignore_case) {
-    ac_options options = options_of(AC_STANDARD, AC_START_UNANCHORED, AC_DFA);
-    options.prefilter = prefilter;
-    options.byte_classes = byte_classes;
-    options.ignore_case = ignore_case;
-    ac_searcher searcher = opened(options, "abcdefghij|");
+/* Returns how much memory a searcher for one word takes, and sets how many requests for memory its opening made. */
+static size_t memory_by(ac_options options, long *requests) {
+    const long most = 1000;
     ac_facts facts = AC_NO_FACTS;
+    granted = most;
+    ac_searcher searcher = opened(options, "abcdefghij|");
+    *requests = most - granted;
+    granted = -1;
     CHECK(ac_describe(&searcher, &facts) == AC_OK);
     ac_close(&searcher);
     return facts.memory;
 }
 
-/* Each setting is seen by what it does alone: without classes a row has an entry for each byte, and a prefilter takes a little. */
+/* Each of these settings is seen by what it does alone. A prefilter for one word is a copy of it, which no fact counts. Without
+   classes a row has an entry for each byte. A greater depth packs fewer states; the start is never packed, so depths 0 and 1 are
+   the same. The usual settings are 1, 1 and 2. */
+static void check_usual_settings(void) {
+    const ac_options usual = options_of(AC_STANDARD, AC_START_UNANCHORED, AC_CONTIGUOUS_NFA);
+    ac_options plain = usual, wide = usual, deep = usual;
+    long requests, others;
+    size_t memory = memory_by(usual, &requests), before = 0;
+    plain.prefilter = 0;
+    CHECK(memory_by(plain, &others) == memory && others < requests);
+    wide.byte_classes = 0;
+    CHECK(memory_by(wide, &others) > 2 * memory);
+    for (deep.dense_depth = 0; deep.dense_depth < 6; deep.dense_depth++) {
+        size_t now = memory_by(deep, &others);
+        CHECK((deep.dense_depth == 1 ? now == before : now > before) && (now == memory) == (deep.dense_depth == 2));
+        before = now;
+    }
+}
+
 static void check_settings(void) {
-    size_t usual = memory_by(1, 1, 0);
-    CHECK(memory_by(1, 0, 0) > 8 * usual && memory_by(0, 1, 0) < 2 * usual);
     ac_options options = AC_DEFAULTS;
     ac_searcher searcher = opened(options, "a|A|");
     CHECK(gives(ac_walk, &searcher, "aA", whole("aA"), 8, "0:0-1 1:1-2 "));
@@ -303,7 +324,7 @@ static void check_settings(void) {
     ac_close(&searcher);
 }
 
-/* 5,000 equal patterns end at one place, in batches of 8. */
+/* 5,000 equal patterns end at one place, in batches of 8. The usual engine is AC_AUTO, which serves so many without a DFA. */
 static void check_equal_patterns(void) {
     enum { MANY = 5000 };
     static char bytes[MANY];
@@ -316,8 +337,10 @@ static void check_equal_patterns(void) {
     ac_searcher searcher = AC_EMPTY;
     ac_cursor cursor = {0, 0};
     ac_match found[8];
+    ac_facts facts = AC_NO_FACTS;
     size_t filled = 8, given = 0, wrong = 0;
     CHECK(ac_open(&options, bytes, MANY, ends, MANY, &searcher) == AC_OK);
+    CHECK(ac_describe(&searcher, &facts) == AC_OK && facts.patterns == MANY && facts.engine == AC_CONTIGUOUS_NFA);
     while (filled == 8 && ac_overlapping(&searcher, "aa", 2, &span, &cursor, found, 8, &filled) == AC_OK)
         for (size_t i = 0; i < filled; i++, given++)
             wrong += found[i].pattern != given % MANY || found[i].end != 1 + given / MANY;
@@ -326,17 +349,23 @@ static void check_equal_patterns(void) {
 }
 
 static void check_facts(void) {
-    for (uint32_t engine = AC_AUTO; engine <= AC_DFA; engine++) {
-        ac_options options = options_of(AC_LEFTMOST_FIRST, AC_START_ANCHORED, engine);
+    ac_facts facts = AC_NO_FACTS;
+    for (uint32_t i = 0; i < 4 * 3 * 3; i++) {
+        uint32_t kind = i % 3, start = i / 3 % 3, engine = i / 9;
+        ac_options options = options_of(kind, start, engine);
         ac_searcher searcher = opened(options, "foo|bar|quux|baz|");
-        ac_facts facts = AC_NO_FACTS;
         CHECK(ac_describe(&searcher, &facts) == AC_OK && facts.patterns == 4 && facts.shortest == 3 && facts.longest == 4);
-        CHECK(facts.engine == (engine == AC_AUTO ? AC_DFA : engine) && facts.match_kind == 1 && facts.start_kind == 1);
+        CHECK(facts.engine == (engine ? engine : start == AC_START_BOTH ? AC_CONTIGUOUS_NFA : AC_DFA));
+        CHECK(facts.match_kind == kind && facts.start_kind == start && facts.size == sizeof facts);
         ac_close(&searcher);
         searcher = opened(options, "");
         CHECK(ac_describe(&searcher, &facts) == AC_OK && !facts.patterns && facts.shortest == SIZE_MAX && !facts.longest);
         ac_close(&searcher);
     }
+    ac_searcher usual = opened((ac_options)AC_DEFAULTS, "a|");
+    CHECK(ac_describe(&usual, &facts) == AC_OK && facts.match_kind == AC_STANDARD && facts.start_kind == AC_START_UNANCHORED);
+    CHECK(facts.engine == AC_DFA);
+    ac_close(&usual);
 }
 
 /* A clone does what its searcher does, whichever of them is closed first, and a clone of a clone does too. */
@@ -635,6 +664,7 @@ int main(void) {
     check_opens();
     check_sizes();
     check_statuses();
+    check_usual_settings();
     check_settings();
     check_equal_patterns();
     check_facts();

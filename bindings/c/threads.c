@@ -13,8 +13,8 @@ static char haystack[2000];
 
 /* What the calls answer about the haystack. */
 typedef struct answers {
-    ac_match found, walked[MOST], listed[MOST];
-    size_t walked_len, listed_len, count, patterns, engine, replaced_len;
+    ac_match found, walked[MOST], listed[MOST], streamed[MOST];
+    size_t walked_len, listed_len, streamed_len, count, patterns, engine, replaced_len;
     int32_t statuses[5];
     char replaced[sizeof haystack];
 } answers;
@@ -32,6 +32,21 @@ static size_t all_matches(search *by, const ac_searcher *searcher, ac_match *out
     return len;
 }
 
+/* All occurrences, by a stream of its own that is fed a few bytes at a time. */
+static size_t all_streamed(const ac_searcher *searcher, ac_match *out) {
+    ac_stream stream = AC_EMPTY;
+    size_t len = 0, taken, filled;
+    if (ac_stream_open(searcher, AC_LISTING, &stream) != AC_OK)
+        return MOST + 1;
+    for (size_t at = 0; at < sizeof haystack && len + BATCH <= MOST; at += taken, len += filled) {
+        size_t piece = sizeof haystack - at < 50 ? sizeof haystack - at : 50;
+        ac_stream_feed(&stream, haystack + at, piece, &taken, out + len, BATCH, &filled);
+    }
+    ac_stream_end(&stream, out + len, BATCH, &filled);
+    ac_stream_close(&stream);
+    return len + filled;
+}
+
 static void answer(const ac_searcher *searcher, answers *out) {
     const ac_span span = AC_WHOLE(sizeof haystack);
     ac_facts facts = AC_NO_FACTS;
@@ -46,6 +61,7 @@ static void answer(const ac_searcher *searcher, answers *out) {
     out->engine = facts.engine;
     out->walked_len = all_matches(ac_walk, searcher, out->walked);
     out->listed_len = all_matches(ac_overlapping, searcher, out->listed);
+    out->streamed_len = all_streamed(searcher, out->streamed);
 }
 
 /* What a thread works with, and how many of its checks failed. */
@@ -129,7 +145,8 @@ int main(void) {
         faults += ac_open(&options, words, sizeof words - 1, word_ends, WORDS, &searcher) != AC_OK;
         answer(&searcher, &wanted);
         faults += wanted.patterns != WORDS || wanted.engine != engine || wanted.count != wanted.walked_len ||
-                  wanted.walked_len < 90 || wanted.listed_len <= wanted.walked_len || wanted.listed_len > MOST;
+                  wanted.walked_len < 90 || wanted.listed_len <= wanted.walked_len || wanted.listed_len > MOST ||
+                  wanted.streamed_len != wanted.listed_len || memcmp(wanted.streamed, wanted.listed, sizeof wanted.listed);
         run(work, &searcher, &wanted, nothing);
         run(work_alone, &searcher, &wanted, ac_close);
         ac_close(&searcher);

@@ -9,6 +9,7 @@ pub mod ListingStarts
 pub mod ListingSteps
 pub mod NumberLemmas
 pub mod Ownership
+pub mod StreamSteps
 pub mod TextLemmas
 pub mod WalkEnds
 pub mod WalkSteps

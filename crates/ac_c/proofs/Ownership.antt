@@ -5,4 +5,4 @@ pub mod Held
 pub mod HandleValues
 pub mod RawBoxValues
 pub mod ReaderParts
-pub mod SearcherLaws
+pub mod HeldLaws

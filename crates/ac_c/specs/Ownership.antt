@@ -9,14 +9,13 @@ use denote.Struct.Lending.{lent_at}
 use Rattle.std.specs.declared.option.Option.{Option}
 use Rattle.std.specs.declared.option.Option.TheVariants.{None, Some}
 use Rattle.std.specs.declared.alloc.Global.{Global}
-use Rattle.std.specs.contracts.alloc.Global as heap
 use Rattle.std.specs.contracts.impls.GlobalAllocator.TheImpl.{ghosts}
 use Rattle.std_alloc.specs.Box.Ownership.{box_owns}
-use Rattle.ac_search.specs.contracts.ahocorasick.AhoCorasick as searcher
+use Rattle.ac_c.specs.contracts.handle.held.Held as box_content
 
--- the searcher that a handle keeps: one with the allocator `Global`
-abbrev pub searcher_row : RattleType
-searcher_row = searcher.the_row heap.the_row ghosts
+-- what a handle keeps on the heap
+abbrev pub held_row : RattleType
+held_row = box_content.the_row
 
 module _ (R : RattleType) (a : Global) (p : Ptr) where
   -- a box on the heap of `Global` at this address
@@ -24,9 +23,9 @@ module _ (R : RattleType) (a : Global) (p : Ptr) where
   boxed = box_owns (ghosts.dealloc_token a) R p
 
   -- the box of a value; or nothing, and the address is null
-  abbrev pub held : Option R.Denot → Fml
-  held None = fex (p ≡ null_ptr) (λ _. ftrue)
-  held (Some x) = boxed x
+  abbrev pub owns_held : Option R.Denot → Fml
+  owns_held None = fex (p ≡ null_ptr) (λ _. ftrue)
+  owns_held (Some x) = boxed x
 
 -- so many parts in 2 ^ 63 of a lifetime's token
 abbrev pub tokens : ℕ → ℕ → Fml

@@ -6,16 +6,16 @@ use Rattle.ac_search.specs.Searchers.{Searcher}
 use Rattle.ac_search.specs.declared.MatchError.{MatchError}
 use Rattle.ac_search.specs.declared.MatchError.TheVariants.{InvalidInputAnchored, InvalidInputUnanchored, UnsupportedEmpty, UnsupportedOverlapping, UnsupportedStream}
 use Rattle.ac_c.specs.declared.search.Span.{Span}
-use Rattle.ac_c.specs.declared.status.TheConstants.{ANCHORED, ARGUMENTS, FOUND, OK, OVERLAPPING, UNANCHORED}
+use Rattle.ac_c.specs.declared.status.TheConstants.{ANCHORED, ARGUMENTS, EMPTY_PATTERN, FOUND, OK, OVERLAPPING, UNANCHORED}
 use Rattle.ac_c.specs.Searches.{found_in, input_by, is_input}
 
--- the status of a refused search. The last two refusals are of streams, which no call here searches
+-- the status of a refused search
 abbrev pub refusal_status : MatchError → ℤ
 refusal_status InvalidInputAnchored = ANCHORED
 refusal_status InvalidInputUnanchored = UNANCHORED
 refusal_status (UnsupportedOverlapping kind) = OVERLAPPING
 refusal_status (UnsupportedStream kind) = OVERLAPPING
-refusal_status UnsupportedEmpty = OVERLAPPING
+refusal_status UnsupportedEmpty = EMPTY_PATTERN
 
 -- ARGUMENTS where an argument names nothing, then the status of what refuses the search, and else this one
 abbrev pub status_unless : Bool → Option MatchError → ℤ → ℤ

@@ -1,7 +1,9 @@
 //! Another handle of the same searcher.
-ghost use Rattle.std.specs.Prelude.{◌≡◌, ◌≢◌, ◌⊎◌, Some};
+ghost use Rattle.std.specs.Prelude.{◌≡◌, ◌≢◌, ◌⊎◌};
+ghost use Rattle.ac_c.specs.Handles.{HoldsSearcher};
 
 use crate::handle::Handle;
+use crate::handle::held::Held;
 use crate::reader::Reader;
 use crate::status::{MEMORY, OK};
 use std::alloc::Global;
@@ -13,14 +15,14 @@ use std::alloc::Global;
 #[unsafe(no_mangle)]
 pub extern "C" fn ac_raw_clone(alloc: Global, reader: &mut Reader, out: &mut Handle) -> i32
     ensures status { (result ≡ OK) ⊎ (result ≡ MEMORY) }
-    ensures cloned { result ≡ OK → out.new.searcher ≡ Some reader.old.searcher }
+    ensures cloned { result ≡ OK → HoldsSearcher out.new.held (λ s. s ≡ reader.old.held.searcher) }
     ensures otherwise { result ≢ OK → out.new ≡ out.old }
     ensures reader { reader.new ≡ reader.old }
 {
-    let Ok(searcher) = reader.get().clone() else {
+    let Ok(searcher) = reader.get().searcher.clone() else {
         return MEMORY;
     };
-    match Handle::new(alloc, searcher) {
+    match Handle::new(alloc, Held::of(searcher)) {
         Ok(handle) => {
             *out = handle;
             OK

@@ -28,10 +28,10 @@ pub struct Facts {
 /// Writes what a searcher is to `out`.
 #[unsafe(no_mangle)]
 pub extern "C" fn ac_raw_facts(reader: &mut Reader, out: &mut Facts)
-    ensures facts { IsFactsOf reader.old.searcher out.new }
+    ensures facts { IsFactsOf reader.old.held.searcher out.new }
     ensures reader { reader.new ≡ reader.old }
 {
-    let searcher = reader.get();
+    let searcher = &reader.get().searcher;
     *out = Facts {
         patterns: searcher.patterns_len(),
         shortest: searcher.min_pattern_len(),

@@ -19,15 +19,15 @@ pub extern "C" fn ac_raw_find(
     span: &Span,
     out: &mut FoundMatch,
 ) -> i32
-    ensures status { result ≡ find_status reader.old.searcher haystack.now span.now }
-    ensures found { result ≡ FOUND → found_in reader.old.searcher haystack.now span.now ≡ Some (match_of out.new) }
+    ensures status { result ≡ find_status reader.old.held.searcher haystack.now span.now }
+    ensures found { result ≡ FOUND → found_in reader.old.held.searcher haystack.now span.now ≡ Some (match_of out.new) }
     ensures otherwise { result ≢ FOUND → out.new ≡ out.old }
     ensures reader { reader.new ≡ reader.old }
 {
     let Some(input) = span.input(haystack) else {
         return ARGUMENTS;
     };
-    match reader.get().try_find(input) {
+    match reader.get().searcher.try_find(input) {
         Ok(Some(found)) => {
             *out = FoundMatch::of(found);
             FOUND
@@ -41,13 +41,13 @@ pub extern "C" fn ac_raw_find(
 /// soon as it knows of an occurrence.
 #[unsafe(no_mangle)]
 pub extern "C" fn ac_raw_is_match(reader: &mut Reader, haystack: &[u8], span: &Span) -> i32
-    ensures status { result ≡ find_status reader.old.searcher haystack.now span.now }
+    ensures status { result ≡ find_status reader.old.held.searcher haystack.now span.now }
     ensures reader { reader.new ≡ reader.old }
 {
     let Some(input) = span.input(haystack) else {
         return ARGUMENTS;
     };
-    match reader.get().try_find(input.earliest(true)) {
+    match reader.get().searcher.try_find(input.earliest(true)) {
         Ok(Some(_)) => FOUND,
         Ok(None) => OK,
         Err(error) => refusal_status(error),
@@ -64,15 +64,15 @@ pub extern "C" fn ac_raw_count(
     span: &Span,
     count: &mut usize,
 ) -> i32
-    ensures status { result ≡ walk_status reader.old.searcher haystack.now span.now }
-    ensures count { result ≡ OK → count.new ≡ length (walked_in reader.old.searcher haystack.now span.now) }
+    ensures status { result ≡ walk_status reader.old.held.searcher haystack.now span.now }
+    ensures count { result ≡ OK → count.new ≡ length (walked_in reader.old.held.searcher haystack.now span.now) }
     ensures otherwise { result ≢ OK → count.new ≡ count.old }
     ensures reader { reader.new ≡ reader.old }
 {
     let Some(input) = span.input(haystack) else {
         return ARGUMENTS;
     };
-    let searcher = reader.get();
+    let searcher = &reader.get().searcher;
     answers_lie_inside(searcher, input);
     match searcher.try_find_iter(input) {
         Ok(matches) => {

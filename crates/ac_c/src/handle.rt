@@ -4,37 +4,39 @@
 ghost use Rattle.std.specs.Prelude.{◌≡◌, IfOk, MatchOption};
 ghost use Rattle.std.specs.declared.option.Option.{Option};
 ghost use Rattle.std.specs.declared.option.Option.TheVariants.{None, Some};
-ghost use Rattle.ac_search.specs.Searchers.{Searcher};
-ghost use Rattle.ac_c.specs.Ownership.{held, searcher_row};
+ghost use Rattle.ac_c.specs.declared.handle.held.Held.{Held};
+ghost use Rattle.ac_c.specs.Ownership.{held_row, owns_held};
 
-use ac_search::AhoCorasick;
+use held::Held;
 use raw_box::RawBox;
 use std::alloc::{AllocError, Global};
 use std::marker::{Model, Send};
+use std::mem;
 use std::ptr::null_mut;
 
+pub mod held;
 pub mod raw_box;
 
-/// A searcher on the heap, or none where the address is null. C sees a struct of the address alone, and may move it, also
-/// to another thread, but not copy it.
+/// A searcher on the heap, which may have begun a search of a text in pieces; or nothing, where the address is null. C sees a struct of
+/// the address alone, and may move it, also to another thread, but not copy it.
 #[repr(C)]
 pub struct Handle {
     at: *mut u8,
     alloc: Global,
-    /// The searcher, or none.
-    pub ghost searcher: { Option Searcher },
+    /// What it holds, if it holds something.
+    pub ghost held: { Option Held },
 }
 
 impl Model for Handle {
-    ghost also_owns = { λ h. held searcher_row h.alloc h.at h.searcher };
+    ghost also_owns = { λ h. owns_held held_row h.alloc h.at h.held };
 }
 
 unsafe impl Send for Handle {}
 
 impl Handle {
-    /// Returns a handle that holds no searcher.
+    /// Returns a handle that holds nothing.
     pub fn empty(alloc: Global) -> Handle
-        ensures { result.searcher ≡ None }
+        ensures { result.held ≡ None }
     {
         Handle {
             at: null_mut(),
@@ -42,20 +44,20 @@ impl Handle {
         }
     }
 
-    /// Returns a handle that holds a searcher.
+    /// Returns a handle that holds this.
     ///
     /// # Errors
     /// `AllocError` where there is no memory for its box.
-    pub fn new(alloc: Global, searcher: AhoCorasick<Global>) -> Result<Handle, AllocError>
-        ensures { IfOk result (λ handle. handle.searcher ≡ Some searcher) }
+    pub fn new(alloc: Global, held: Held) -> Result<Handle, AllocError>
+        ensures { IfOk result (λ handle. handle.held ≡ Some held) }
     {
-        let boxed = Box::new(alloc, searcher)?;
+        let boxed = Box::new(alloc, held)?;
         Ok(Handle::of(RawBox::of(boxed)))
     }
 
-    /// Returns a handle that holds the searcher of a box.
-    pub fn of(raw: RawBox<AhoCorasick<Global>, Global>) -> Handle
-        ensures { result.searcher ≡ Some raw.value }
+    /// Returns a handle that holds what is in a box.
+    pub fn of(raw: RawBox<Held, Global>) -> Handle
+        ensures { result.held ≡ Some raw.value }
     {
         let RawBox { at, alloc } = raw;
         Handle {
@@ -64,16 +66,25 @@ impl Handle {
         }
     }
 
-    /// Returns the box of the searcher that the handle holds, if it holds one.
-    pub fn into_raw_box(self) -> Option<RawBox<AhoCorasick<Global>, Global>>
-        ensures { MatchOption result (self.searcher ≡ None) (λ raw. self.searcher ≡ Some raw.value) }
+    /// Takes out what it holds, if it holds something, and leaves it empty.
+    pub fn take(&mut self, alloc: Global) -> Option<Box<Held>>
+        ensures taken { MatchOption result (self.old.held ≡ None) (λ b. self.old.held ≡ Some b.value) }
+        ensures left { self.new.held ≡ None }
+    {
+        let raw = mem::replace(self, Handle::empty(alloc)).into_raw_box()?;
+        Some(raw.into_box())
+    }
+
+    /// Returns the box of what the handle holds, if it holds something.
+    pub fn into_raw_box(self) -> Option<RawBox<Held, Global>>
+        ensures { MatchOption result (self.held ≡ None) (λ raw. self.held ≡ Some raw.value) }
     {
         let Handle { at, alloc } = self;
         if at.is_null() {
             None
         } else {
             Some(RawBox {
-                at: at as *mut AhoCorasick<Global>,
+                at: at as *mut Held,
                 alloc,
             })
         }

@@ -17,5 +17,6 @@ pub mod reader;
 pub mod replace;
 pub mod search;
 pub mod status;
+pub mod stream;
 pub mod texts;
 pub mod walk;

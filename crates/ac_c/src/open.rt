@@ -1,8 +1,10 @@
 //! The build of a searcher, and its end.
-ghost use Rattle.std.specs.Prelude.{◌≡◌, ◌≢◌, MatchOption};
+ghost use Rattle.std.specs.Prelude.{◌≡◌, ◌≢◌};
+ghost use Rattle.ac_c.specs.Handles.{HoldsSearcher};
 ghost use Rattle.ac_c.specs.Opens.{AnswersOpened, IsOpenStatus, IsOpened};
 
 use crate::handle::Handle;
+use crate::handle::held::Held;
 use crate::options::Options;
 use crate::status::{ARGUMENTS, LIMIT, MEMORY, OK};
 use crate::texts::{are_ends, passes_limit, texts_in};
@@ -34,14 +36,14 @@ pub extern "C" fn ac_raw_open(
     out: &mut Handle,
 ) -> i32
     ensures status { IsOpenStatus options.now bytes.now ends.now result }
-    ensures opened { result ≡ OK → MatchOption out.new.searcher ⊥ (IsOpened options.now bytes.now ends.now) }
+    ensures opened { result ≡ OK → HoldsSearcher out.new.held (IsOpened options.now bytes.now ends.now) }
     ensures otherwise { result ≢ OK → out.new ≡ out.old }
 {
     let searcher = match opened(alloc, options, bytes, ends) {
         Ok(searcher) => searcher,
         Err(status) => return status,
     };
-    match Handle::new(alloc, searcher) {
+    match Handle::new(alloc, Held::of(searcher)) {
         Ok(handle) => {
             *out = handle;
             OK

@@ -30,9 +30,9 @@ pub extern "C" fn ac_raw_overlapping(
 ) -> i32
     ensures status { result
         ≡ status_unless (is_input haystack.now span.now)
-        (overlapping_iter_refusal reader.old.searcher.built (input_by haystack.now span.now)) OK }
+        (overlapping_iter_refusal reader.old.held.searcher.built (input_by haystack.now span.now)) OK }
     ensures lists { result ≡ OK
-        → Gives (listing_due reader.old.searcher haystack.now span.now) cursor.old cursor.new out.old out.new filled.new }
+        → Gives (listing_due reader.old.held.searcher haystack.now span.now) cursor.old cursor.new out.old out.new filled.new }
     ensures otherwise { result ≢ OK → GivesNothing cursor.old cursor.new out.old out.new filled.new }
     ensures reader { reader.new ≡ reader.old }
 {
@@ -41,7 +41,7 @@ pub extern "C" fn ac_raw_overlapping(
         return ARGUMENTS;
     };
     let mut here = cursor.in_span(span.start);
-    match list(reader.get(), input, &mut here, out) {
+    match list(&reader.get().searcher, input, &mut here, out) {
         Ok(written) => {
             *cursor = here;
             *filled = written;

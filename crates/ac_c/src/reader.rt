@@ -2,8 +2,8 @@
 //!
 //! What a `Reader` owns, and that it lends the searcher, is proved by hand.
 ghost use Rattle.std.specs.Prelude.{ℕ};
-ghost use Rattle.ac_search.specs.Searchers.{Searcher};
-ghost use Rattle.ac_c.specs.Ownership.{part_owns, searcher_row};
+ghost use Rattle.ac_c.specs.declared.handle.held.Held.{Held};
+ghost use Rattle.ac_c.specs.Ownership.{held_row, part_owns};
 
 use std::marker::{Model, Send};
 
@@ -14,10 +14,10 @@ mod lend;
 #[repr(C)]
 #[derive(Drop)]
 pub struct Reader {
-    /// The address of the searcher.
+    /// The address of what is lent.
     pub at: *const u8,
-    /// The searcher.
-    pub ghost searcher: { Searcher },
+    /// What is lent.
+    pub ghost held: { Held },
     /// The lifetime for which it is shared.
     pub ghost lifetime: { ℕ },
     /// How many parts of that lifetime the reader has.
@@ -25,7 +25,7 @@ pub struct Reader {
 }
 
 impl Model for Reader {
-    ghost also_owns = { λ r. part_owns searcher_row r.at r.searcher r.lifetime r.parts };
+    ghost also_owns = { λ r. part_owns held_row r.at r.held r.lifetime r.parts };
 }
 
 unsafe impl Send for Reader {}

@@ -24,13 +24,13 @@ pub extern "C" fn ac_raw_replace(
     out: &mut [u8],
     needed: &mut usize,
 ) -> i32
-    ensures status { IsOkOrMemory (replace_status reader.old.searcher bytes.now ends.now) result }
+    ensures status { IsOkOrMemory (replace_status reader.old.held.searcher bytes.now ends.now) result }
     ensures replaces { result ≡ OK
-        → Replaces reader.old.searcher haystack.now bytes.now ends.now out.old out.new needed.new }
+        → Replaces reader.old.held.searcher haystack.now bytes.now ends.now out.old out.new needed.new }
     ensures otherwise { result ≢ OK → (out.new ≡ out.old) × (needed.new ≡ needed.old) }
     ensures reader { reader.new ≡ reader.old }
 {
-    match replaced(alloc, reader.get(), haystack, bytes, ends) {
+    match replaced(alloc, &reader.get().searcher, haystack, bytes, ends) {
         Ok(whole) => {
             *needed = whole.len();
             put(&whole, out);

@@ -29,17 +29,18 @@ pub const UNANCHORED: i32 = -5;
 /// The search is overlapping, and the searcher's match kind isn't `MatchKind::Standard`.
 pub const OVERLAPPING: i32 = -6;
 
+/// The text comes in pieces, and some pattern is empty.
+pub const EMPTY_PATTERN: i32 = -7;
+
 /// Returns the status of a refused search.
-///
-/// The last two refusals are of streams, which no call here searches.
 pub fn refusal_status(error: MatchError) -> i32
     ensures { result ≡ refusal_status error }
 {
     match error {
         MatchError::InvalidInputAnchored => ANCHORED,
         MatchError::InvalidInputUnanchored => UNANCHORED,
-        MatchError::UnsupportedOverlapping { .. }
-        | MatchError::UnsupportedStream { .. }
-        | MatchError::UnsupportedEmpty => OVERLAPPING,
+        MatchError::UnsupportedOverlapping { .. } | MatchError::UnsupportedStream { .. } =>
+            OVERLAPPING,
+        MatchError::UnsupportedEmpty => EMPTY_PATTERN,
     }
 }

@@ -24,9 +24,9 @@ pub extern "C" fn ac_raw_walk(
     out: &mut [FoundMatch],
     filled: &mut usize,
 ) -> i32
-    ensures status { result ≡ walk_status reader.old.searcher haystack.now span.now }
+    ensures status { result ≡ walk_status reader.old.held.searcher haystack.now span.now }
     ensures walks { result ≡ OK
-        → Gives (walk_due reader.old.searcher haystack.now span.now) cursor.old cursor.new out.old out.new filled.new }
+        → Gives (walk_due reader.old.held.searcher haystack.now span.now) cursor.old cursor.new out.old out.new filled.new }
     ensures otherwise { result ≢ OK → GivesNothing cursor.old cursor.new out.old out.new filled.new }
     ensures reader { reader.new ≡ reader.old }
 {
@@ -35,7 +35,7 @@ pub extern "C" fn ac_raw_walk(
         return ARGUMENTS;
     };
     let mut here = cursor.in_span(span.start);
-    match walk(reader.get(), input, &mut here, out) {
+    match walk(&reader.get().searcher, input, &mut here, out) {
         Ok(written) => {
             *cursor = here;
             *filled = written;

@@ -9,21 +9,20 @@ use denote.Param.Send.{IsSend, IsSync}
 use Rattle.std.specs.declared.option.Option.{Option}
 use Rattle.std.specs.declared.option.Option.TheVariants.{None, Some}
 use Rattle.std.specs.declared.alloc.Global.{Global}
-use Rattle.std.specs.contracts.alloc.Global as heap
 use Rattle.std.specs.contracts.impls.GlobalAllocator.TheImpl.{ghosts}
 use Rattle.std.proofs.Crossing as heap_crosses
 use Rattle.std_alloc.proofs.SendSync.{lies, seen}
-use Rattle.ac_search.proofs.ahocorasick.AhoCorasick.TheSendSync as searcher
-use Rattle.ac_c.specs.Ownership.{held, part_owns, searcher_row}
+use Rattle.ac_c.proofs.handle.held.Held.TheSendSync as box_content
+use Rattle.ac_c.specs.Ownership.{held_row, owns_held, part_owns}
 
-pub searcher_send : IsSend searcher_row
-searcher_send = searcher.the_send heap.the_row ghosts heap_crosses.send heap_crosses.sync heap_crosses.frees
+pub held_send : IsSend held_row
+held_send = box_content.the_send
 
-pub searcher_sync : IsSync searcher_row
-searcher_sync = searcher.the_sync heap.the_row ghosts heap_crosses.send heap_crosses.sync heap_crosses.frees
+pub held_sync : IsSync held_row
+held_sync = box_content.the_sync
 
 module _ (R : RattleType) where
-  pub held-Keyless : IsSend R → (a : Global) (p : Ptr) (w : Option R.Denot) → Keyless (held R a p w)
+  pub held-Keyless : IsSend R → (a : Global) (p : Ptr) (w : Option R.Denot) → Keyless (owns_held R a p w)
   held-Keyless s a p None = λ _. tt
   held-Keyless s a p (Some x) = (lies R s p x, heap_crosses.frees.frees a (raw (lone R.mir)) p)
 

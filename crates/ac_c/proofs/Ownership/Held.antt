@@ -15,7 +15,7 @@ use Rattle.std.specs.contracts.impls.GlobalAllocator.TheImpl.{ghosts}
 use Rattle.std.proofs.GlobalToken.{dealloc_token-Testable}
 use Rattle.std.specs.declared.option.Option.{Option}
 use Rattle.std.specs.declared.option.Option.TheVariants.{None, Some}
-use Rattle.ac_c.specs.Ownership.{boxed, held}
+use Rattle.ac_c.specs.Ownership.{boxed, owns_held}
 
 module _ (R : RattleType) (a : Global) where
   -- the address of a box can be tested for null
@@ -27,7 +27,7 @@ module _ (R : RattleType) (a : Global) where
   module _ {M : Type 1} {𝓤 : Ura M} {𝓛 : Logic 𝓤} {K : Type 0} {Γ : List (Item 𝓤)} {G : Goal 𝓤 𝓛.H} where
     -- what is held is nothing at null, or a box at an address in a block
     pub either_held : K → (p : Ptr) (w : Option R.Denot) → (p ≡ null_ptr → w ≡ None → Seq K 𝓛 Γ G)
-        → ((b o : ℕ) (x : R.Denot) → p ≡ block_ptr b o → w ≡ Some x → Testable (block_ptr b o) → Seq K 𝓛 (‵ (boxed R a (block_ptr b o) x) ∷ Γ) G) → Seq K 𝓛 (‵ (held R a p w) ∷ Γ) G
+        → ((b o : ℕ) (x : R.Denot) → p ≡ block_ptr b o → w ≡ Some x → Testable (block_ptr b o) → Seq K 𝓛 (‵ (boxed R a (block_ptr b o) x) ∷ Γ) G) → Seq K 𝓛 (‵ (owns_held R a p w) ∷ Γ) G
     either_held t p None none one = fpick t (λ e. drop t $ none e refl)
     either_held t p (Some x) none one =
         use1 𝓛 (given (Testable p) (‵ (boxed R a p x))) (tested 𝓛 p x) $ learn t (λ u. in_a_block t p (λ q. boxed R a q x) (fst∗ 𝓤 (never 𝓤) (sem 𝓛 (ghosts.dealloc_token a (bare (lone R.mir)) null_ptr)))

@@ -4,12 +4,12 @@ use denote.Struct.Owning.{shape, fields, to}
 use denote.Param.Send.{IsSend, AllSend, owning_send, struct_send, sendable}
 use Rattle.std.proofs.Crossing.{crosses}
 use Rattle.std_alloc.proofs.SendSync.{quiet}
-use Rattle.ac_c.specs.Ownership.{searcher_row}
-use Rattle.ac_c.proofs.Ownership.Crosses.{held-Keyless, searcher_send}
+use Rattle.ac_c.specs.Ownership.{held_row}
+use Rattle.ac_c.proofs.Ownership.Crosses.{held-Keyless, held_send}
 use Rattle.ac_c.specs.contracts.handle.Handle.{the_row, the_type}
 
 pub send : IsSend the_row
 send =
     let all : AllSend (fields the_type) = search (sendable, crosses) in
-    owning_send the_type all (λ h. held-Keyless searcher_row searcher_send h.alloc h.at h.searcher)
+    owning_send the_type all (λ h. held-Keyless held_row held_send h.alloc h.at h.held)
     (λ k. quiet (to the_type) (exits_of k (fields the_type)) ((struct_send (shape the_type) all).leaving k))

@@ -33,8 +33,8 @@ use Rattle.core.proofs.alloc.Shapes.{after}
 use Rattle.std.proofs.raw_atomic.Walks.{proved, leaves}
 use Rattle.ac_c.specs.Ownership.{part_owns}
 use Rattle.ac_c.proofs.Ownership.ReaderParts.{Lent, part_lies, part_sees, by_token}
-use Rattle.ac_c.specs.Ownership.{searcher_row as R}
-use Rattle.ac_c.proofs.Ownership.SearcherLaws.{searcher_laws}
+use Rattle.ac_c.specs.Ownership.{held_row as R}
+use Rattle.ac_c.proofs.Ownership.HeldLaws.{held_laws}
 use Rattle.ac_c.specs.contracts.reader.Reader.{the_row as Row, the_type}
 use Rattle.ac_c.proofs.reader.Reader.TheLaws.{lowers, lowered}
 use Rattle.ac_c.specs.contracts.reader.Reader.get.{ended, clauses}
@@ -49,7 +49,7 @@ abbrev hs : Stays (ended).signature.params (ended).kept
 hs = (stay_dropped self no, tt)
 
 abbrev Heap : Row.Denot → Fml
-Heap h = part_owns R h.at h.searcher h.lifetime h.parts
+Heap h = part_owns R h.at h.held h.lifetime h.parts
 
 abbrev Rest : Row.Denot → ℕ → ℕ → Fml
 Rest h b o = fex (List Val) (λ us. fsep (cell_at full_share Row.mir us b o) ((Struct (shape the_type)).own_val (to the_type h) us))
@@ -71,9 +71,9 @@ get_spec 𝓤 𝓛 𝓜 𝓡 wired =
     let H = 𝓛.H in let 𝓣 = tables 𝓤 H 𝓜 𝓡 𝓡.env in let c = clauses 𝓛 𝓜.mem 𝓡.returns in let fn = code.function in
     proved 𝓛 ended hs c 𝓜 𝓡 (Goes-spent_ref 𝓛 1 (0 ∷ []) tt (plain (λ _. Row)), tt) #self fn (code.unfolded 𝓤 H 𝓜 𝓡 wired)
     (λ κs. (mut_vals, tt)) (λ κs. (mut_Tells (named 0) κs.0 Row, tt)) (λ κs qs bounds a g are.
-    let κ : Lft = κs.0 in let q : Share = qs.0 in let b : ℕ = a.0.ref_ptr.0 in let o : ℕ = a.0.ref_ptr.1 in let γ : ℕ = a.0.ghost_name in let h : Row.Denot = a.0.now in let p : Ptr = h.at in let x = h.searcher in
+    let κ : Lft = κs.0 in let q : Share = qs.0 in let b : ℕ = a.0.ref_ptr.0 in let o : ℕ = a.0.ref_ptr.1 in let γ : ℕ = a.0.ghost_name in let h : Row.Denot = a.0.now in let p : Ptr = h.at in let x = h.held in
     let y : (walk_of 𝓛 ended hs c).Ghost = ((κs, qs, bounds, a, (vptr b o ∷ [], tt)), g) in let Post : Val → SProp 𝓤 = (walk_of 𝓛 ended hs c).post y in let there : Val = vptr (block_of p) (count_of p) in
-    let t : Lft → Fml = lent_at R p x in let L = lent_at_shr_laws R searcher_laws.shr_laws p x in
+    let t : Lft → Fml = lent_at R p x in let L = lent_at_shr_laws R held_laws.shr_laws p x in
     qed 𝓛 (((‵ (flft κ q) ⊛ ‵ ftrue) ⊛ ‵ ((MutRef (named 0) κ Row).own_val a.0 (vptr b o ∷ [])) ⊛ ‵ ftrue) ∷ raw ((c κs a).requires g) ∷ []) ∵
     split ! $ split ! $ move ! (2 ∷ []) $ split ! $ keep ! (0 ∷ 2 ∷ []) $
     enter ! 𝓣.C 𝓣.Λ fn (vptr b o ∷ []) Post $ alloc_all ! (λ l. pass_all ! refl ((tt, tt), tt) $ let Ev = env fn.locals l in

@@ -1,0 +1,6 @@
+use Rattle.ac_c.proofs.StreamSteps.{takes-walk}
+use Rattle.ac_c.proofs.stream.search.walk_on.Goals as goal
+
+pub returns : goal.returns
+returns c =
+    takes-walk c.args.finder.now c.args.piece.now.now c.next.new.piece.now c.next.result c.next.new.self c.next.ensures
