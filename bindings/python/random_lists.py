@@ -61,6 +61,18 @@ def random_text(numbers, letters, most):
     return letters[:0].join(letters[at:at + 1] for at in numbers.choices(range(len(letters)), k=numbers.randint(0, most)))
 
 
+class Pieces:
+    """A file that gives a text in random pieces."""
+
+    def __init__(self, numbers, text):
+        self.numbers, self.text = numbers, text
+
+    def read(self, size):
+        at = self.numbers.randint(1, min(size, 5))
+        piece, self.text = self.text[:at], self.text[at:]
+        return piece
+
+
 def faults_of(numbers, letters, patterns, haystack, kind):
     """Compares all searches over a list under a match kind, with random settings and a random span, and yields what differs."""
     span = sorted(numbers.choices(range(len(haystack) + 1), k=2)) if numbers.random() < 0.5 else [0, len(haystack)]
@@ -87,6 +99,13 @@ def faults_of(numbers, letters, patterns, haystack, kind):
             whole = Slow(patterns, haystack, [0, len(haystack)], ignore_case, ORDERS[kind])
             wanted_and_got["replace_all"] = (
                 replaced(haystack, whole.walk(False), texts), searcher.replace_all(haystack, texts))
+            if all(patterns):
+                wanted_and_got["stream_find_iter"] = (
+                    list(whole.walk(False)), list(searcher.stream_find_iter(Pieces(numbers, haystack))))
+                if kind == "standard":
+                    wanted_and_got["stream_find_overlapping_iter"] = (
+                        sorted(whole.all, key=ORDERS["standard"]),
+                        list(searcher.stream_find_overlapping_iter(Pieces(numbers, haystack))))
     for call, (wanted, got) in wanted_and_got.items():
         if wanted != got:
             yield f"{call} of {patterns} in {haystack}, {settings}, {options}, {earliest}: {got}, and not {wanted}"

@@ -1,6 +1,8 @@
 """Tests of the module."""
+import contextlib
 import copy
 import gc
+import io
 import itertools
 import os
 import pathlib
@@ -8,16 +10,18 @@ import pickle
 import signal
 import subprocess
 import sys
+import tempfile
 import threading
 import time
+import tracemalloc
 import unittest
 import unittest.mock
 import warnings
 import weakref
 
 import ahocorasick_rattle
-from ahocorasick_rattle import (BATCH, ENGINES, KINDS, AhoCorasick, AnchoredError, ArgumentError, Error, LimitError, Match,
-                                OverlappingError, UnanchoredError)
+from ahocorasick_rattle import (BATCH, ENGINES, KINDS, PIECE, AhoCorasick, AnchoredError, ArgumentError, EmptyPatternError, Error,
+                                LimitError, Match, OverlappingError, UnanchoredError)
 
 CASES = pathlib.Path(__file__).resolve().parent.parent / "cases.txt"
 FRUIT = "Nobody likes maple in their apple flavored Snapple."
@@ -167,18 +171,439 @@ class Searches(unittest.TestCase):
         self.assertEqual(("refused 2\n", ""), (ran.stdout, ran.stderr))
 
 
+def watched(name, watch):
+    """Replaces a call of the library by one that then gives its arguments to `watch`."""
+    call = getattr(ahocorasick_rattle._library, name)
+
+    def watching(*arguments):
+        status = call(*arguments)
+        watch(*arguments)
+        return status
+
+    return unittest.mock.patch.object(ahocorasick_rattle._library, name, watching)
+
+
+class Feeds:
+    """Notes which bytes each stream takes, while it is entered."""
+
+    def __enter__(self):
+        self.taken, self._exit = [], contextlib.ExitStack()
+        self._exit.enter_context(watched("ac_stream_open", lambda *_: self.taken.append([])))
+        self._exit.enter_context(watched("ac_stream_feed", self.note))
+        return self
+
+    def note(self, _, address, size, taken, *__):
+        self.taken[-1].append((address, address + taken.value, address + size))
+
+    def __exit__(self, *_):
+        self._exit.close()
+
+
+class Batches(unittest.TestCase):
+    """What is found when it is more than one call gives. What one call gives, if it has room for all, is right."""
+
+    LONG = "c" * 8 * BATCH  # longer than a batch comes, so that a stream finds the next one
+    WORDS = [["a"], ["a", "ab"], ["ab", "b", "abab"], ["b", "aab", "a"], ["aaab", "a", "aa"], ["", "ab"], ["bb", "bab", "b", "b"]]
+
+    @staticmethod
+    def searches(searcher, haystack, *span):
+        """Gives all that is found, by each search."""
+        yield list(searcher.find_iter(haystack, *span))
+        yield list(searcher.find_iter(haystack, *span, earliest=True))
+        yield list(searcher.find_iter(haystack, *span, anchored=True))
+        if searcher.kind == "standard":
+            yield list(searcher.find_overlapping_iter(haystack, *span))
+
+    def compare(self, searcher, haystack, *span):
+        with unittest.mock.patch.object(ahocorasick_rattle, "BATCH", 5000):
+            wanted = list(self.searches(searcher, haystack, *span))
+        self.assertTrue(wanted == list(self.searches(searcher, haystack, *span)), (searcher.kind, haystack[:20], span))
+        return wanted
+
+    def test_small_ones(self):
+        """With room for few matches, short texts have what they have with room for many."""
+        letters = (b"ab", "ab", "\u0436\u0437", "\U0001f600b", "\ud83d\ude00", "a\ud800")
+        for words, kind, engine, form in itertools.product(self.WORDS, KINDS, ENGINES[:3], letters):
+            texts = [self.written(word, form) for word in ("", "ab", "aaaa", "aabab", "abaaab", "bbabbaab", "aaabaaaba")]
+            with AhoCorasick([self.written(word, form) for word in words], kind=kind, engine=engine, start="both") as searcher:
+                for text, room in itertools.product(texts, (1, 2, 3)):
+                    with unittest.mock.patch.object(ahocorasick_rattle, "BATCH", room):
+                        self.compare(searcher, text)
+                        self.compare(searcher, text, len(text) // 3, len(text) - len(text) // 4)
+
+    @staticmethod
+    def written(word, letters):
+        """Writes a word over a and b in other letters."""
+        return letters[:0].join(letters["ab".index(letter):][:1] for letter in word)
+
+    def test_sizes_at_the_edge(self):
+        """The last match may fill a batch, or be settled by the end of the span alone."""
+        for kind, letters in itertools.product(KINDS, (b"ab", "ab", "\u0436\u0437", "\U0001f600\ud83d")):
+            a, b = letters[:1], letters[1:]
+            for patterns, long in itertools.product(([a], [a, a + b], [a + a + b, a]), ([], [b * len(self.LONG)])):
+                with AhoCorasick(patterns + long, kind=kind, start="both") as searcher:
+                    for count in (BATCH, BATCH + 1, 2 * BATCH):
+                        self.assertEqual(count, len(self.compare(searcher, a * count)[0]))
+                    self.assertEqual(count, len(self.compare(searcher, b + b + a * count + b + a, 2, count + 2)[0]))
+                    self.compare(searcher, b + (a + b) * BATCH, 3)
+
+    def test_no_byte_is_read_twice(self):
+        """A stream goes over the span once. No other search uses one, nor one that has few matches, though a pattern is long."""
+        for form, count in itertools.product((str, str.encode), (BATCH - 1, BATCH, 3 * BATCH)):
+            haystack = form("b" * 7 + "ab" * count + "c" * 9)
+            for kind in KINDS:
+                patterns = [form("a"), form("abb"), form(self.LONG)]
+                with AhoCorasick(patterns, kind=kind, start="both") as searcher, Feeds() as feeds:
+                    for options in ({"earliest": True}, {"anchored": True}, {"end": 6 + 2 * (BATCH - 1)}):
+                        list(searcher.find_iter(haystack, **{"start": 7, **options}))
+                    self.assertEqual([], feeds.taken)
+                    self.assertEqual(count, sum(1 for _ in searcher.find_iter(haystack, 7, len(haystack) - 2)))
+                    self.check_feeds(feeds, 2 * count + 7 if kind != "standard" and count >= BATCH else 0)
+                    if kind == "standard":
+                        self.assertEqual(count, sum(1 for _ in searcher.find_overlapping_iter(haystack, 7, len(haystack) - 2)))
+                        self.check_feeds(feeds, 2 * count + 7 if count >= BATCH else 0)
+
+    def test_batches_that_come_far(self):
+        """Where a batch comes as far as the longest pattern is long, the cursor finds the next one, up to one that doesn't."""
+        far, near = ("b" * 7 + "a") * 3 * BATCH, "a" * 3 * BATCH
+        for kind, near, feeds_len in itertools.product(KINDS, ("", near), (0, 1)):
+            with AhoCorasick(["a", self.LONG + "c" * feeds_len], kind=kind) as searcher, Feeds() as feeds:
+                self.assertEqual(3 * BATCH + len(near), sum(1 for _ in searcher.find_iter(far + near)))
+                self.assertEqual(int(kind != "standard" and bool(near or feeds_len)), len(feeds.taken))
+
+    def check_feeds(self, feeds, size):
+        """At most one stream has taken so many bytes, one after another."""
+        self.assertEqual(1 if size else 0, len(feeds.taken))
+        for taken in feeds.taken:
+            self.check_order(taken)
+            self.assertEqual([size], list({last - taken[0][0] for _, _, last in taken}))
+            self.assertEqual(size, taken[-1][1] - taken[0][0])
+
+    def check_order(self, taken):
+        """Each feed begins where the one before it took no more."""
+        self.assertEqual([end for _, end, _ in taken[:-1]], [start for start, _, _ in taken[1:]])
+
+    def test_each_has_its_time(self):
+        """No batch is looked for before it is needed."""
+        with AhoCorasick(["a", self.LONG], kind="leftmost-first") as searcher, Feeds() as feeds:
+            matches = searcher.find_iter("a" * 5 * BATCH)
+            for count, feds in ((0, []), (BATCH, []), (1, [2]), (BATCH - 1, [2]), (1, [3])):
+                self.assertEqual(count, sum(1 for _ in itertools.islice(matches, count)))
+                self.assertEqual(feds, [len(taken) for taken in feeds.taken])
+            self.check_order(feeds.taken[0])
+
+    def test_each_stream_is_closed(self):
+        """Its memory goes with its iterator, also with one that wasn't used up, and no other call frees it."""
+        events = []
+        opening, closing = (watched(f"ac_stream_{name}", lambda *_, name=name: events.append(name)) for name in ("open", "close"))
+        with opening, closing:
+            with AhoCorasick(["a", self.LONG], kind="leftmost-first") as searcher:
+                for given in (BATCH + 1, 3 * BATCH, 5 * BATCH):
+                    self.assertEqual(min(given, 3 * BATCH),
+                                     sum(1 for _ in itertools.islice(searcher.find_iter("a" * 3 * BATCH), given)))
+                    self.assertEqual(["open", "close"], events)
+                    events.clear()
+
+    def test_want_of_memory(self):
+        """There may be none for a stream, and the searcher goes on."""
+        with AhoCorasick(["a", self.LONG], kind="leftmost-first") as searcher:
+            matches, refused = searcher.find_iter("a" * 2 * BATCH), lambda *_: ahocorasick_rattle.MEMORY
+            with unittest.mock.patch.object(ahocorasick_rattle._library, "ac_stream_open", refused):
+                self.assertEqual(BATCH, sum(1 for _ in itertools.islice(matches, BATCH)))
+                self.assertRaises(MemoryError, next, matches)
+                self.assertRaises(MemoryError, searcher.stream_find_iter, io.StringIO())
+            self.assertEqual(2 * BATCH, sum(1 for _ in searcher.find_iter("a" * 2 * BATCH)))
+
+
+class Pieces:
+    """A file that gives these pieces, one with each read, and raises those that are exceptions."""
+
+    def __init__(self, *pieces):
+        self.pieces, self.sizes = list(pieces), []
+
+    def read(self, size):
+        self.sizes.append(size)
+        piece = self.pieces.pop(0)
+        if isinstance(piece, BaseException):
+            raise piece
+        return piece
+
+
+class Into:
+    """The same by readinto, of bytes."""
+
+    def __init__(self, *pieces):
+        self.pieces, self.sizes = Pieces(*pieces), []
+
+    def readinto(self, room):
+        piece = self.pieces.read(len(room))
+        if not isinstance(piece, bytes):
+            return piece
+        room[:len(piece)] = piece
+        return len(piece)
+
+
+def cuts(text):
+    """Gives all ways to cut a text into pieces, each with the empty piece of its end."""
+    for ends in itertools.product((False, True), repeat=max(0, len(text) - 1)):
+        at = [0, *(number for number, is_end in enumerate(ends, 1) if is_end), len(text)]
+        yield [text[start:end] for start, end in zip(at, at[1:]) if start < end] + [text[:0]]
+
+
+class Files(unittest.TestCase):
+    """What is found in files."""
+
+    WORDS = [["ab"], ["a", "ab", "abb"], ["b", "abab"], ["aaab", "a", "aa", "a"], ["bab", "abb", "ba"], []]
+
+    def compare(self, searcher, text, *files):
+        """Each of the files, which has this text, has the matches of the text."""
+        searches = [(searcher.find_iter, searcher.stream_find_iter)]
+        if searcher.kind == "standard":
+            searches.append((searcher.find_overlapping_iter, searcher.stream_find_overlapping_iter))
+        for search, stream in searches:
+            wanted = list(search(text))
+            for file in files:
+                self.assertTrue(wanted == list(stream(file())), (searcher.kind, text[:40]))
+
+    @staticmethod
+    def opened(stack, *arguments, **settings):
+        """Returns a call that opens a file, which the stack closes."""
+        return lambda: stack.enter_context(open(*arguments, **settings))
+
+    def test_all_cuts(self):
+        """However a short text is cut, it has the matches of the whole."""
+        forms = (b"ab", "ab", "\u0436a", "\ud83d\ude00")
+        for words, kind, engine, letters in itertools.product(self.WORDS, KINDS, ENGINES, forms):
+            written = lambda word: Batches.written(word, letters)
+            with AhoCorasick(map(written, words), kind=kind, engine=engine) as searcher:
+                for text in map(written, ("", "b", "abab", "aabb", "babab", "aaabab")):
+                    for pieces in cuts(text):
+                        files = [lambda: Pieces(*pieces), lambda: Into(*pieces)]
+                        self.compare(searcher, text, *files[:2 if isinstance(text, bytes) and words else 1])
+
+    def test_small_batches(self):
+        """Room for few matches changes nothing."""
+        for room, kind, letters, words in itertools.product((1, 2, 3), KINDS, (b"ab", "\U0001f600a"), self.WORDS):
+            written = lambda word: Batches.written(word, letters)
+            with AhoCorasick(map(written, words), kind=kind) as searcher:
+                for text in map(written, ("abab", "aabb", "babab", "aaabaa")):
+                    with unittest.mock.patch.object(ahocorasick_rattle, "BATCH", room):
+                        self.compare(searcher, text, *[lambda pieces=pieces: Pieces(*pieces) for pieces in cuts(text)])
+
+    def test_characters_far_back(self):
+        """Only text that follows, as much as the longest pattern has, may settle a match."""
+        letters = ("b", "\u0436", "\u20ac", "\U0001f600", "\udc80")
+        for letter, end, kind in itertools.product(letters, ("", "z", "a", "\u0436"), KINDS):
+            for last in ("c", "\u0441"):
+                words, text = ["a" + letter * 40 + last, "a"], letter * 3 + ("a" + letter * 40 + end) * 3 + "a"
+                for size in (1, 7, 200):
+                    pieces = [text[at:at + size] for at in range(0, len(text), size)] + [""]
+                    with AhoCorasick(words, kind=kind) as searcher:
+                        self.compare(searcher, text, lambda: Pieces(*pieces))
+
+    def test_characters_of_all_bytes(self):
+        """Each counts as one, whichever bytes it has."""
+        text = "".join(map(chr, [*range(0x80, 0x1100), 0xD800, 0xDFFF, 0xFFFF, 0x10000, 0x3FFFF, 0x40000, 0x10FFFF]))
+        for size in (1, 64, len(text)):
+            pieces = [text[at:at + size] for at in range(0, len(text), size)] + ["a", ""]
+            with AhoCorasick(["a", text[-1]]) as searcher:
+                self.compare(searcher, text + "a", lambda: Pieces(*pieces))
+
+    def test_files_of_the_library(self):
+        """In memory, open ones with a buffer and without, at their beginning and not, in text with other ends of lines."""
+        text = "".join(f"{number} \u0436 apple\r\n" for number in range(6_000))
+        with tempfile.TemporaryDirectory() as folder, contextlib.ExitStack() as stack:
+            path = pathlib.Path(folder) / "file"
+            path.write_bytes(text.encode())
+            raw, random = self.opened(stack, path, "rb", 0), self.opened(stack, path, "r+b")
+            as_it_is = self.opened(stack, path, newline="", encoding="utf-8")
+            translated = self.opened(stack, path, encoding="utf-8")
+            for kind in KINDS:
+                with AhoCorasick([b"apple", b"9", b"99 \xd0", b"\r\n1"], kind=kind) as searcher, open(path, "rb") as file:
+                    self.compare(searcher, text.encode(), lambda: io.BytesIO(text.encode()), raw, random)
+                    file.seek(3)
+                    self.assertEqual(list(searcher.find_iter(text.encode()[3:])), list(searcher.stream_find_iter(file)))
+                    self.assertFalse(file.closed)
+                with AhoCorasick(["apple", "9", "99 \u0436", "\n1", "\r\n2"], kind=kind) as searcher:
+                    self.compare(searcher, text, lambda: io.StringIO(text, newline=""), as_it_is)
+                    self.compare(searcher, text.replace("\r\n", "\n"), translated)
+
+    def test_a_pipe(self):
+        """Its matches come when they are there. To be empty is an error for one that doesn't block; then it can be read again."""
+        reading, writing = os.pipe()
+        with open(reading, "rb") as file, AhoCorasick([b"ab", b"b"]) as searcher:
+            matches, late = searcher.stream_find_iter(file), threading.Timer(10, os.close, [writing])
+            late.start()
+            os.write(writing, b"xab")
+            self.assertEqual(Match(0, 1, 3), next(matches))
+            self.assertTrue(late.is_alive())
+            late.cancel()
+            late.join()
+            os.set_blocking(reading, False)
+            for raw in (file, file.raw):
+                matches = searcher.stream_find_iter(raw)
+                self.assertRaises(BlockingIOError, next, matches)
+                os.write(writing, b"xa")
+                self.assertRaises(BlockingIOError, next, matches)
+                os.write(writing, b"bb")
+                self.assertEqual([Match(0, 1, 3), Match(1, 3, 4)], [next(matches), next(matches)])
+                self.assertRaises(BlockingIOError, next, matches)
+            os.close(writing)
+            self.assertEqual([], list(matches))
+
+    def test_when_they_are_read(self):
+        """Each match is given before more is read than settles it, and nothing is read after the end."""
+        for kind, reads in (("standard", [1, 2, 3]), ("leftmost-longest", [2, 3, 4])):
+            file = Pieces(b"xa", b"ba", b"bab", b"bx", b"")
+            with AhoCorasick([b"a", b"abb"], kind=kind) as searcher:
+                matches, counts = searcher.stream_find_iter(file), []
+                self.assertEqual([], file.sizes)
+                for _ in matches:
+                    counts.append(len(file.sizes))
+                self.assertEqual(reads, counts)
+                self.assertRaises(StopIteration, next, matches)
+                self.assertEqual([PIECE] * 5, file.sizes)
+        file = Pieces("xa", "")
+        self.assertEqual([(0, 1, 2)], list(AhoCorasick(["a"]).stream_find_iter(file)))
+        self.assertEqual([PIECE // 4] * 2, file.sizes)
+
+    def test_batches_join(self):
+        """All that is settled comes before the next read, which fails, also where a byte ends more matches than a call gives."""
+        for count in (BATCH - 1, BATCH, BATCH + 1, 2 * BATCH, 2 * BATCH + 1):
+            for form, kind in itertools.product((str, str.encode), KINDS):
+                searcher, piece = AhoCorasick([form("a"), form("abb")], kind=kind), form("a" * count + "c")
+                matches = searcher.stream_find_iter(Pieces(piece, OSError("other"), piece, form("")))
+                self.assertEqual([(0, at, at + 1) for at in range(count)], list(itertools.islice(matches, count)))
+                self.assertRaisesRegex(OSError, "other", next, matches)
+                self.assertEqual([(0, at, at + 1) for at in range(count + 1, 2 * count + 1)], list(matches))
+            for form in (str, str.encode):
+                matches = AhoCorasick([form("a")] * count).stream_find_overlapping_iter(Pieces(form("aa"), OSError("other")))
+                self.assertEqual([(number, at, at + 1) for at in range(2) for number in range(count)],
+                                 list(itertools.islice(matches, 2 * count)))
+                self.assertRaisesRegex(OSError, "other", next, matches)
+
+    def test_failures(self):
+        """What a file raises passes through, after what is settled, and what it then gives is searched."""
+        for raised, file in itertools.product((OSError, BlockingIOError, KeyboardInterrupt), (Pieces, Into)):
+            for failure in [raised()] + [None] * (raised is BlockingIOError):
+                with AhoCorasick([b"ab", b"b", b"c"], kind="leftmost-first") as searcher:
+                    matches = searcher.stream_find_iter(file(b"bxa", failure, failure, b"bcx", failure, b""))
+                    self.assertEqual(Match(1, 0, 1), next(matches))
+                    self.assertRaises(raised, next, matches)
+                    self.assertRaises(raised, next, matches)
+                    self.assertEqual([Match(0, 2, 4), Match(2, 4, 5)], [next(matches), next(matches)])
+                    self.assertRaises(raised, next, matches)
+                    self.assertEqual([], list(matches))
+
+    def test_wrong_files(self):
+        """What is no file is refused at once, and what a file gives if it can't be searched."""
+        for pattern, wrong in (("a", (b"a", b"", 1, bytearray(b"a"))), (b"a", ("a", "", 1, [b"a"]))):
+            searcher = AhoCorasick([pattern])
+            for no_file in ("a", b"a", 1, None, ["a"]):
+                self.assertRaises(TypeError, searcher.stream_find_iter, no_file)
+            for piece in wrong:
+                matches = searcher.stream_find_iter(Pieces(piece))
+                self.assertRaises(TypeError, next, matches)
+                self.assertRaises(StopIteration, next, matches)
+        for count in (-1, PIECE + 1, 1 << 64):
+            self.assertRaisesRegex(OSError, str(count), next, AhoCorasick([b"a"]).stream_find_iter(Into(count)))
+        self.assertRaises(TypeError, AhoCorasick(["a"]).stream_find_iter, Into(b""))
+        for form in (str, str.encode):
+            self.assertEqual([], list(AhoCorasick([]).stream_find_iter(Pieces(form("a"), form("")))))
+            whole = form("ba" * PIECE)
+            self.compare(AhoCorasick([form("a")]), whole, lambda: Pieces(whole, form("")))
+
+    def test_refusals(self):
+        """They come before anything is read."""
+        for settings, refused in ((dict(start="anchored"), UnanchoredError), (dict(start="both"), EmptyPatternError)):
+            with AhoCorasick(["a", ""], **settings) as searcher:
+                self.assertRaises(refused, searcher.stream_find_iter, Pieces())
+                self.assertRaises(refused, searcher.stream_find_overlapping_iter, Pieces())
+        for kind in KINDS[1:]:
+            with AhoCorasick(["a"], kind=kind) as searcher:
+                self.assertRaises(OverlappingError, searcher.stream_find_overlapping_iter, Pieces())
+        self.assertRaisesRegex(ArgumentError, "closed", searcher.stream_find_iter, Pieces())
+
+    def test_no_byte_is_fed_twice(self):
+        """All that a file gives is fed, once."""
+        for kind, form in itertools.product(KINDS, (str, str.encode)):
+            pieces = [form("\u0436ab" * count) for count in (1, BATCH, 3 * BATCH, 2)]
+            with AhoCorasick([form("a"), form("abb")], kind=kind) as searcher, Feeds() as feeds:
+                found = sum(1 for _ in searcher.stream_find_iter(Pieces(*pieces, form(""))))
+            self.assertEqual(4 * BATCH + 3, found)
+            self.assertEqual(4 * found, sum(end - start for start, end, _ in feeds.taken[0]))
+            self.assertEqual(1, len(feeds.taken))
+
+    def test_memory_is_bounded(self):
+        """A long file isn't kept, whether it has matches or not."""
+        for piece, kind in itertools.product((b"ab" * 30_000, "ab" * 8_000, "\u0436a" * 8_000), KINDS):
+            for word, end, found in (("c", "", 0), ("c", "c", 100)):
+                form = type(piece) if isinstance(piece, str) else str.encode
+                pieces = itertools.chain([piece + form(end)] * 100, [piece[:0]])
+                file = unittest.mock.Mock(spec=["read"], read=lambda size: next(pieces))
+                with AhoCorasick([form(word)], kind=kind) as searcher:
+                    tracemalloc.start()
+                    self.assertEqual(found, sum(1 for _ in searcher.stream_find_iter(file)))
+                    self.assertLess(tracemalloc.get_traced_memory()[1], 1_000_000)
+                    tracemalloc.stop()
+
+    def test_lives(self):
+        """An iterator keeps its searcher. A closed one refuses what would be searched next. With the iterator its memory goes."""
+        for failure in ([], [OSError()]):
+            searcher = AhoCorasick(["a"])
+            matches, memory = searcher.stream_find_iter(Pieces("aa", *failure, "a", "")), weakref.ref(searcher._open)
+            stream = weakref.ref(matches._stream)
+            del searcher
+            self.assertEqual((Match(0, 0, 1), Match(0, 1, 2)), (next(matches), next(matches)))
+            if failure:
+                self.assertRaises(OSError, next, matches)
+            self.assertEqual(Match(0, 2, 3), next(matches))
+            self.assertIsNotNone(memory())
+            del matches
+            self.assertEqual((None, None), (memory(), stream()))
+        searcher = AhoCorasick(["a"])
+        file = Pieces("aa", "a", "")
+        matches, ended = searcher.stream_find_iter(file), searcher.stream_find_iter(Pieces(""))
+        self.assertEqual(([], Match(0, 0, 1)), (list(ended), next(matches)))
+        searcher.close()
+        self.assertEqual(([], Match(0, 1, 2)), (list(ended), next(matches)))
+        self.assertRaisesRegex(ArgumentError, "closed", next, matches)
+        self.assertEqual(["a", ""], file.pieces)
+        for copied in (copy.copy, copy.deepcopy, pickle.dumps):
+            self.assertRaisesRegex(TypeError, "iterator", copied, matches)
+
+    def test_one_thread_at_a_time(self):
+        """Another one, and the file itself, can't get a match meanwhile; they can afterwards."""
+        entered, go_on, found, file = threading.Event(), threading.Event(), [], Pieces(b"aa", b"")
+        slow = unittest.mock.Mock(spec=["read"], read=lambda size: entered.set() or go_on.wait(10) and file.read(size))
+        matches = AhoCorasick([b"a"]).stream_find_iter(slow)
+        thread = threading.Thread(target=lambda: found.append(next(matches)))
+        thread.start()
+        entered.wait(30)
+        self.assertRaisesRegex(ValueError, "running", next, matches)
+        go_on.set()
+        thread.join()
+        self.assertEqual(([Match(0, 0, 1)], [Match(0, 1, 2)]), (found, list(matches)))
+        matches = AhoCorasick([b"a"]).stream_find_iter(unittest.mock.Mock(spec=["read"], read=lambda size: next(matches)))
+        self.assertRaisesRegex(ValueError, "running", next, matches)
+
+
 class Lives(unittest.TestCase):
     """When a searcher can be used."""
 
     def test_closing(self):
         """A closed searcher refuses, also an iterator that has begun; it can be closed again."""
-        with AhoCorasick(["a"]) as searcher:
-            matches = searcher.find_iter("a" * 2 * BATCH)
-            next(matches)
-        self.assertEqual(BATCH - 1, sum(1 for _ in itertools.islice(matches, BATCH - 1)))
-        self.assertRaisesRegex(ArgumentError, "closed", next, matches)
-        self.assertRaisesRegex(ArgumentError, "closed", searcher.find, "a")
-        searcher.close()
+        for kind, given in itertools.product(KINDS, (1, BATCH, BATCH + 1, 2 * BATCH)):
+            with AhoCorasick(["a"], kind=kind) as searcher:
+                iterators = [searcher.find_iter("a" * 3 * BATCH)]
+                iterators += [searcher.find_overlapping_iter("a" * 3 * BATCH)] if kind == "standard" else []
+                for matches in iterators:
+                    self.assertEqual(given, sum(1 for _ in itertools.islice(matches, given)))
+            for matches in iterators:
+                self.assertEqual(-given % BATCH, sum(1 for _ in itertools.islice(matches, -given % BATCH)))
+                self.assertRaisesRegex(ArgumentError, "closed", next, matches)
+            self.assertRaisesRegex(ArgumentError, "closed", searcher.find, "a")
+            searcher.close()
 
     def test_dropping(self):
         """A searcher that nothing refers to is closed."""
@@ -209,10 +634,10 @@ class Lives(unittest.TestCase):
 
     def test_an_iterator_keeps_its_searcher(self):
         """It needs no other reference to it, or to the haystack."""
-        matches = AhoCorasick(["a"]).find_iter("ba" * 2 * BATCH)
-        gc.collect()
-        self.assertEqual(2 * BATCH, sum(1 for _ in matches))
-
+        for kind in KINDS:
+            matches = AhoCorasick(["a"], kind=kind).find_iter("ba" * 2 * BATCH)
+            gc.collect()
+            self.assertEqual(2 * BATCH, sum(1 for _ in matches))
 
 
 class Threads(unittest.TestCase):
@@ -235,13 +660,14 @@ class Threads(unittest.TestCase):
 
     def test_threads_share_a_searcher(self):
         """Each has the answers that one alone has."""
-        searcher, text, answers = AhoCorasick(FRUIT.split()), FRUIT * 50, []
+        searcher, text, answers = AhoCorasick(FRUIT.split()), FRUIT * 100, []
         wanted = (list(searcher.find_iter(text)), list(searcher.find_overlapping_iter(text)), searcher.count(text),
                   searcher.replace_all(text, FRUIT.split()[::-1]))
         self.at_once([lambda: answers.extend(
             (list(searcher.find_iter(text)), list(searcher.find_overlapping_iter(text)), searcher.count(text),
              searcher.replace_all(text, FRUIT.split()[::-1])) for _ in range(10))] * 8)
         self.assertEqual([wanted] * 80, answers)
+        self.assertGreater(len(wanted[1]), BATCH)
 
     def test_calls_run_at_once(self):
         """Four are in the library together, also of one thread's searcher and its copies."""

@@ -1,9 +1,10 @@
 //! The searcher and its builder.
 use crate::error::{BuildError, MatchError};
-use crate::ffi::{self, Facts, Handle, Refusal};
+use crate::ffi::{self, Facts, Handle, Mode, Refusal, Stream};
 use crate::iter::{FindIter, FindOverlappingIter};
 use crate::search::{Anchored, Input, Match, MatchKind, StartKind};
 use std::fmt;
+use std::io;
 use std::sync::Arc;
 
 /// Which engine a searcher uses. It changes no answer.
@@ -270,6 +271,16 @@ impl AhoCorasick {
             (StartKind::Unanchored, Anchored::Yes) => Err(self.error(Refusal::Anchored)),
             (StartKind::Anchored, Anchored::No) => Err(self.error(Refusal::Unanchored)),
             _ => Ok(()),
+        }
+    }
+
+    /// Begins a walk over a text that comes in pieces. The outer error says that the searcher has no such walk, the inner one
+    /// that there is no memory.
+    pub(crate) fn begin_walk(&self) -> Result<io::Result<Stream>, MatchError> {
+        match Stream::open(&self.handle, Mode::Walk) {
+            Ok(stream) => Ok(Ok(stream)),
+            Err(Refusal::Memory) => Ok(Err(io::ErrorKind::OutOfMemory.into())),
+            Err(refusal) => Err(self.error(refusal)),
         }
     }
 

@@ -34,6 +34,17 @@ impl Error for BuildError {}
 
 /// Why a searcher refuses a search. It depends on the settings of the searcher and of the [`Input`](crate::Input), and not
 /// on the haystack.
+///
+/// ```
+/// use aho_corasick_rattle::{AhoCorasick, MatchError, MatchErrorKind};
+/// # fn main() -> Result<(), Box<dyn std::error::Error>> {
+///
+/// let error = AhoCorasick::new([""])?.try_stream_find_iter("a".as_bytes()).unwrap_err();
+/// assert_eq!(error.kind(), &MatchErrorKind::UnsupportedEmpty);
+/// assert_eq!(error, MatchError::unsupported_empty());
+/// # Ok(())
+/// # }
+/// ```
 #[derive(Clone, Debug, PartialEq, Eq)]
 pub struct MatchError(MatchErrorKind);
 
@@ -50,6 +61,14 @@ pub enum MatchErrorKind {
         /// The searcher's match kind.
         got: MatchKind,
     },
+    /// A search of a text in pieces was asked for, and isn't supported for the match kind. All kinds support it here, so no
+    /// search has this error.
+    UnsupportedStream {
+        /// The searcher's match kind.
+        got: MatchKind,
+    },
+    /// A search of a text in pieces was asked for, and a pattern is empty.
+    UnsupportedEmpty,
 }
 
 impl MatchError {
@@ -59,8 +78,39 @@ impl MatchError {
             Refusal::Anchored => MatchErrorKind::InvalidInputAnchored,
             Refusal::Unanchored => MatchErrorKind::InvalidInputUnanchored,
             Refusal::Overlapping => MatchErrorKind::UnsupportedOverlapping { got },
+            Refusal::EmptyPattern => MatchErrorKind::UnsupportedEmpty,
             _ => unreachable!("a search isn't refused for {refusal:?}"),
         })
+    }
+
+    /// Returns an error for this reason.
+    pub fn new(kind: MatchErrorKind) -> MatchError {
+        MatchError(kind)
+    }
+
+    /// Returns an error of [`MatchErrorKind::InvalidInputAnchored`].
+    pub fn invalid_input_anchored() -> MatchError {
+        MatchError(MatchErrorKind::InvalidInputAnchored)
+    }
+
+    /// Returns an error of [`MatchErrorKind::InvalidInputUnanchored`].
+    pub fn invalid_input_unanchored() -> MatchError {
+        MatchError(MatchErrorKind::InvalidInputUnanchored)
+    }
+
+    /// Returns an error of [`MatchErrorKind::UnsupportedStream`], of a searcher of this match kind.
+    pub fn unsupported_stream(got: MatchKind) -> MatchError {
+        MatchError(MatchErrorKind::UnsupportedStream { got })
+    }
+
+    /// Returns an error of [`MatchErrorKind::UnsupportedOverlapping`], of a searcher of this match kind.
+    pub fn unsupported_overlapping(got: MatchKind) -> MatchError {
+        MatchError(MatchErrorKind::UnsupportedOverlapping { got })
+    }
+
+    /// Returns an error of [`MatchErrorKind::UnsupportedEmpty`].
+    pub fn unsupported_empty() -> MatchError {
+        MatchError(MatchErrorKind::UnsupportedEmpty)
     }
 
     /// Returns the reason.
@@ -77,6 +127,10 @@ impl fmt::Display for MatchError {
             MatchErrorKind::UnsupportedOverlapping { got } => {
                 write!(f, "overlapping searches need MatchKind::Standard, and the searcher has {got:?}")
             }
+            MatchErrorKind::UnsupportedStream { got } => {
+                write!(f, "a searcher with {got:?} doesn't support texts in pieces")
+            }
+            MatchErrorKind::UnsupportedEmpty => f.write_str("a text in pieces can't be searched for an empty pattern"),
         }
     }
 }

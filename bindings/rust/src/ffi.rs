@@ -10,6 +10,7 @@ pub(crate) enum Refusal {
     Anchored,
     Unanchored,
     Overlapping,
+    EmptyPattern,
 }
 
 /// Turns a status into whether something was found, or into the reason why the call did nothing.
@@ -23,6 +24,7 @@ fn answer(status: i32) -> Result<bool, Refusal> {
         -4 => Err(Refusal::Anchored),
         -5 => Err(Refusal::Unanchored),
         -6 => Err(Refusal::Overlapping),
+        -7 => Err(Refusal::EmptyPattern),
         _ => unreachable!("the library has no status {status}"),
     }
 }
@@ -76,6 +78,7 @@ pub(crate) struct Facts {
 }
 
 #[repr(C)]
+#[derive(Debug)]
 struct RawHandle {
     at: *mut u8,
 }
@@ -142,6 +145,17 @@ unsafe extern "C" {
         out_len: usize,
         filled: *mut usize,
     ) -> i32;
+    fn ac_raw_stream_open(searcher: *mut RawReader, mode: u32, out: *mut RawHandle) -> i32;
+    fn ac_raw_stream_feed(
+        stream: *mut RawHandle,
+        piece: *const u8,
+        piece_len: usize,
+        taken: *mut usize,
+        out: *mut Match,
+        out_len: usize,
+        filled: *mut usize,
+    ) -> i32;
+    fn ac_raw_stream_end(stream: *mut RawHandle, out: *mut Match, out_len: usize, filled: *mut usize) -> i32;
 }
 
 /// An open searcher.
@@ -250,5 +264,57 @@ impl Drop for Handle {
     fn drop(&mut self) {
         // SAFETY: the searcher is open and given up here, once; no borrow of it is left.
         unsafe { ac_raw_close(RawHandle { at: self.at }) }
+    }
+}
+
+/// What a stream gives.
+#[derive(Clone, Copy, Debug, PartialEq, Eq)]
+pub(crate) enum Mode {
+    Walk = 0,
+    Listing = 1,
+}
+
+/// An open search of a text that comes in pieces. It shares the engine of its searcher.
+#[derive(Debug)]
+pub(crate) struct Stream {
+    raw: RawHandle,
+}
+
+// SAFETY: the library's `Handle`, which this is, is proved to be `Send`; and a `&Stream` gives nothing.
+unsafe impl Send for Stream {}
+unsafe impl Sync for Stream {}
+
+impl Stream {
+    pub(crate) fn open(searcher: &Handle, mode: Mode) -> Result<Stream, Refusal> {
+        let mut raw = RawHandle { at: null_mut() };
+        // SAFETY: the reader is that of an open searcher, and `raw` is an empty handle.
+        let status = unsafe { ac_raw_stream_open(&mut searcher.reader(), mode as u32, &mut raw) };
+        answer(status).map(|_| Stream { raw })
+    }
+
+    /// Takes bytes of a piece and fills `out` with the next matches. Returns how many bytes and how many matches.
+    pub(crate) fn feed(&mut self, piece: &[u8], out: &mut [Match]) -> Result<(usize, usize), Refusal> {
+        let (mut taken, mut filled) = (0, 0);
+        let (bytes, len) = (piece.as_ptr(), piece.len());
+        // SAFETY: the stream is open, and all is borrowed for the call; `out` has room for its length.
+        let status = unsafe {
+            ac_raw_stream_feed(&mut self.raw, bytes, len, &mut taken, out.as_mut_ptr(), out.len(), &mut filled)
+        };
+        answer(status).map(|_| (taken, filled))
+    }
+
+    /// Says that nothing follows, and fills `out` with the matches that are left. Returns how many they are.
+    pub(crate) fn end(&mut self, out: &mut [Match]) -> Result<usize, Refusal> {
+        let mut filled = 0;
+        // SAFETY: as in `feed`.
+        let status = unsafe { ac_raw_stream_end(&mut self.raw, out.as_mut_ptr(), out.len(), &mut filled) };
+        answer(status).map(|_| filled)
+    }
+}
+
+impl Drop for Stream {
+    fn drop(&mut self) {
+        // SAFETY: the stream is open and given up here, once.
+        unsafe { ac_raw_close(RawHandle { at: self.raw.at }) }
     }
 }

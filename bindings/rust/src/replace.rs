@@ -2,6 +2,8 @@
 use crate::ahocorasick::AhoCorasick;
 use crate::error::MatchError;
 use crate::search::Match;
+use crate::stream::Reading;
+use std::io::{Error, Read, Write};
 
 impl AhoCorasick {
     /// Returns the haystack with each match replaced by the text of its pattern. Matches that begin or end inside a character
@@ -114,6 +116,99 @@ impl AhoCorasick {
         }
         dst.extend_from_slice(&haystack[copied..]);
         Ok(())
+    }
+
+    /// Copies the text that a reader gives to a writer, with each match replaced by the bytes of its pattern. The matches are
+    /// those of [`AhoCorasick::stream_find_iter`]. It is 1.1.5's `try_stream_replace_all`.
+    ///
+    /// # Errors
+    ///
+    /// Those of [`AhoCorasick::try_stream_replace_all_with`].
+    ///
+    /// # Panics
+    ///
+    /// If there aren't as many texts as patterns.
+    ///
+    /// # Example
+    ///
+    /// ```
+    /// use aho_corasick_rattle::AhoCorasick;
+    /// # fn main() -> Result<(), Box<dyn std::error::Error>> {
+    ///
+    /// let searcher = AhoCorasick::new(["fox", "brown", "quick"])?;
+    /// let mut sloth = Vec::new();
+    /// searcher.try_stream_replace_all("The quick brown fox.".as_bytes(), &mut sloth, &["sloth", "grey", "slow"])?;
+    /// assert_eq!(sloth, b"The slow grey sloth.");
+    /// # Ok(())
+    /// # }
+    /// ```
+    pub fn try_stream_replace_all<R, W, B>(&self, rdr: R, wtr: W, replace_with: &[B]) -> Result<(), Error>
+    where
+        R: Read,
+        W: Write,
+        B: AsRef<[u8]>,
+    {
+        let texts = self.texts(replace_with);
+        self.try_stream_replace_all_with(rdr, wtr, |found, _, wtr| {
+            wtr.write_all(texts[found.pattern().as_usize()].as_ref())
+        })
+    }
+
+    /// Copies the text that a reader gives to a writer, but calls the closure in place of each match, with the bytes that
+    /// matched. The matches are those of [`AhoCorasick::stream_find_iter`], and the text is read as there. What is known to lie
+    /// outside of all matches is written before more is read; the writer isn't flushed. It is 1.1.5's
+    /// `try_stream_replace_all_with`, and serves each match kind.
+    ///
+    /// The buffer has room for the longest pattern and 64 KiB, or for twice that pattern if that is more.
+    ///
+    /// # Errors
+    ///
+    /// An error of the reader, the writer or the closure, where it ends: what was written by then stays written. A reader's
+    /// [`ErrorKind::Interrupted`](std::io::ErrorKind::Interrupted) is no error; the read is made again. An
+    /// [`ErrorKind::OutOfMemory`](std::io::ErrorKind::OutOfMemory) if there is no memory for the search. An
+    /// [`ErrorKind::Other`](std::io::ErrorKind::Other) over the [`MatchError`] that [`AhoCorasick::try_stream_find_iter`]
+    /// returns: then nothing was read or written.
+    ///
+    /// # Example
+    ///
+    /// ```
+    /// use aho_corasick_rattle::AhoCorasick;
+    /// use std::io::Write;
+    /// # fn main() -> Result<(), Box<dyn std::error::Error>> {
+    ///
+    /// let searcher = AhoCorasick::new(["fox", "brown", "quick"])?;
+    /// let mut loud = Vec::new();
+    /// searcher.try_stream_replace_all_with("The quick brown fox.".as_bytes(), &mut loud, |found, bytes, wtr| {
+    ///     write!(wtr, "{}:", found.start())?;
+    ///     wtr.write_all(&bytes.to_ascii_uppercase())
+    /// })?;
+    /// assert_eq!(loud, b"The 4:QUICK 10:BROWN 16:FOX.");
+    /// # Ok(())
+    /// # }
+    /// ```
+    pub fn try_stream_replace_all_with<R, W, F>(&self, rdr: R, mut wtr: W, mut replace_with: F) -> Result<(), Error>
+    where
+        R: Read,
+        W: Write,
+        F: FnMut(&Match, &[u8], &mut W) -> Result<(), Error>,
+    {
+        // Of the bytes that were read, a match that isn't settled has none but the last, as many as the longest pattern has.
+        let mut reading = Reading::begin(self, rdr, self.max_pattern_len()).map_err(Error::other)??;
+        let mut copied = 0;
+        loop {
+            while let Some(found) = reading.settled() {
+                wtr.write_all(reading.text(copied..found.start()))?;
+                copied = found.end();
+                replace_with(&found, reading.text(found.range()), &mut wtr)?;
+            }
+            let passed = reading.passed().max(copied);
+            wtr.write_all(reading.text(copied..passed))?;
+            copied = passed;
+            if reading.is_over() {
+                return Ok(());
+            }
+            reading.read()?;
+        }
     }
 
     /// Checks that there is a text for each pattern.

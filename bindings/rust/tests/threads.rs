@@ -1,7 +1,7 @@
 //! Searchers that threads share.
 use aho_corasick_rattle::{
     AhoCorasick, AhoCorasickBuilder, AhoCorasickKind, BuildError, FindIter, FindOverlappingIter, Input, Match,
-    MatchError, MatchKind,
+    MatchError, MatchKind, StreamFindIter,
 };
 use std::panic::{RefUnwindSafe, UnwindSafe};
 use std::sync::LazyLock;
@@ -28,6 +28,7 @@ fn types_cross_threads() {
     crosses::<AhoCorasickBuilder>();
     crosses::<FindIter<'_, '_>>();
     crosses::<FindOverlappingIter<'_, '_>>();
+    crosses::<StreamFindIter<'_, &[u8]>>();
     crosses::<Input<'_>>();
     crosses::<Match>();
     crosses::<BuildError>();
@@ -76,4 +77,34 @@ fn an_iterator_goes_on_in_another_thread() {
     let first: Vec<Match> = matches.by_ref().take(150).collect();
     let rest = thread::scope(|scope| scope.spawn(move || matches.collect::<Vec<Match>>()).join().unwrap());
     assert!(first.into_iter().chain(rest).eq(FRUIT.find_iter(&text)));
+}
+
+#[test]
+fn a_stream_goes_on_in_another_thread() {
+    let text = TEXT.repeat(100);
+    let mut matches = FRUIT.stream_find_iter(text.as_bytes()).map(Result::unwrap);
+    let first: Vec<Match> = matches.by_ref().take(150).collect();
+    let rest = thread::scope(|scope| scope.spawn(move || matches.collect::<Vec<Match>>()).join().unwrap());
+    assert!(first.into_iter().chain(rest).eq(FRUIT.find_iter(&text)));
+}
+
+/// How many matches a stream has, if it has no more than bytes.
+fn count_of_stream(searcher: AhoCorasick, text: &str) -> usize {
+    searcher.stream_find_iter(text.as_bytes()).take(text.len()).count()
+}
+
+#[test]
+fn threads_search_streams_and_batches_of_one_searcher() {
+    let text = TEXT.repeat(100);
+    let mut builder = AhoCorasick::builder();
+    for kind in [MatchKind::Standard, MatchKind::LeftmostFirst, MatchKind::LeftmostLongest] {
+        let searcher = builder.match_kind(kind).build(["apple", "maple", "Snapple", "e", "pp"]).unwrap();
+        let alone: Vec<Match> = searcher.find_iter(&text).collect();
+        thread::scope(|scope| {
+            let clones = (0..8).map(|_| scope.spawn(|| count_of_stream(searcher.clone(), &text)));
+            let counts: Vec<_> = clones.collect();
+            assert!(searcher.stream_find_iter(text.as_bytes()).map(Result::unwrap).eq(alone.iter().copied()));
+            assert!(counts.into_iter().all(|thread| thread.join().unwrap() == alone.len()));
+        });
+    }
 }

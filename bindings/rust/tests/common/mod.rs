@@ -1,4 +1,6 @@
 //! Searchers of all settings that change no answer.
+#![allow(dead_code)]
+
 use aho_corasick_rattle::{AhoCorasick, AhoCorasickBuilder, AhoCorasickKind, Match};
 
 pub type Found = Vec<(usize, usize, usize)>;
