@@ -1,8 +1,9 @@
 //! The exports for C of `ac_search`, which searches for many patterns at once.
 //!
-//! A handle owns a searcher, or is empty. C lends the searcher to a call as a reader, and a slice as a pointer, which
-//! isn't null, and a length. All else is tested: whatever numbers C passes, a call does no harm. Handles and readers are
-//! `Send`, so calls in many threads may read one searcher at once.
+//! A handle owns a searcher, and the search of a text in pieces that it has begun, if it has; or it is empty. C lends the
+//! searcher to a call as a reader, and a slice as a pointer, which isn't null, and a length. All else is tested: whatever
+//! numbers C passes, a call does no harm. Handles and readers are `Send`, so calls in many threads may read one searcher
+//! at once.
 #![tactic(auto)]
 
 pub mod clone;
