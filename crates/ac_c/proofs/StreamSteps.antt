@@ -1,19 +1,16 @@
 -- A search of a text in pieces: what one call of its `next` gives, and what a loop over these has written.
-use Rattle.ac_util.proofs.Prelude.{◌≡◌, ℕ, ◌+◌, ◌<◌, ◌≤◌, List, [], ◌∷◌, ◌++◌, drop, take, map, length, length-append, nil_from_length, refl, sym, ap, ◌∙◌, subst, Option, None, Some, append-nil, append_assoc, arith, rules, slice_get, take_all, take_more, get_or_from_slice_get, slice_get_within, length-set, map-append}
-use Rattle.std.proofs.lemmas.Grind.{drop_more_same}
-use Rattle.std.proofs.lemmas.List.{drop-set-lt, take_more_set}
+use Rattle.ac_util.proofs.Prelude.{◌≡◌, ℕ, ◌+◌, List, [], ◌∷◌, ◌++◌, drop, take, map, length, length-append, nil_from_length, refl, sym, ap, ◌∙◌, subst, Option, None, Some, append-nil, arith, slice_get, take_all, take_more, get_or_from_slice_get, slice_get_within}
 use Rattle.std.proofs.lemmas.Option.{none-some}
 use Rattle.ac_search.specs.Occurrence.{Occurrence}
 use Rattle.ac_search.specs.OverlappingPieces.{ListsTaken, PieceListing, listed_taken}
 use Rattle.ac_search.specs.Pieces.{TakesOn}
 use Rattle.ac_search.specs.Stream.{stream_result}
-use Rattle.ac_search.specs.Streams.{GivesMatch, GivesRead, HasGivenSettled, Streaming}
-use Rattle.ac_search.specs.declared.Phase.TheVariants.{Open}
+use Rattle.ac_search.specs.Streams.{Streaming}
 use Rattle.ac_c.specs.declared.search.FoundMatch.{FoundMatch}
 use Rattle.ac_c.specs.declared.stream.search.PieceSearch.{PieceSearch}
 use Rattle.ac_c.specs.declared.stream.search.PieceSearch.TheVariants.{Listing, Walk}
 use Rattle.ac_c.specs.Searches.{match_of}
-use Rattle.ac_c.specs.Streams.{Feeding, HasMovedOn, IsAllWritten, TakesNext, bytes_of_search, ended_search, found_by, given_by, matches_given}
+use Rattle.ac_c.specs.Streams.{Feeding, HasMovedOn, IsAllWritten, TakesNext, bytes_of_search, ended_search, matches_taken, count_given, matches_given}
 
 -- one element more of the first ones
 take-next : {X : Type 0} (xs : List X) (n : ℕ) (x : X) → slice_get xs n ≡ Some x → take (n + 1) xs ≡ take n xs ++ x ∷ []
@@ -89,7 +86,7 @@ pub record HasWritten (old : Feeding) (piece : List ℕ) (out new_out : List Fou
   pub parted : piece ≡ taken ++ left
   pub bytes : bytes_of_search new.search ≡ bytes_of_search old.search ++ taken
   pub written : matches_given new.search ≡ matches_given old.search ++ map match_of (take filled new_out)
-  pub counted : given_by new.search ≡ given_by old.search + filled
+  pub counted : count_given new.search ≡ count_given old.search + filled
   pub kept : drop filled new_out ≡ drop filled out
   pub length' : length new_out ≡ length out
 
@@ -99,6 +96,6 @@ none-left taken left e =
     let l : 0 ≡ length taken + length left = ap length e ∙ length-append taken left in nil_from_length left (omega arith)
 
 -- a search that has ended, and gave all that is settled, gave all
-pub ended-gives-all : (s : PieceSearch) → IsAllWritten (ended_search s) → matches_given (ended_search s) ≡ found_by (ended_search s)
+pub ended-gives-all : (s : PieceSearch) → IsAllWritten (ended_search s) → matches_given (ended_search s) ≡ matches_taken (ended_search s)
 ended-gives-all (Walk v) all = take_all v.given (stream_result v.built v.bytes) (let e = all.settled.0 in omega arith)
 ended-gives-all (Listing v) all = take_all v.given (listed_taken v) (let e = all in omega arith)

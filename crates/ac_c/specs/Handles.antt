@@ -1,5 +1,5 @@
 -- What a handle holds.
-use Rattle.std.specs.Prelude.{◌≡◌, List, Option, None, Some, MatchOption}
+use Rattle.std.specs.Prelude.{◌≡◌, Option, None, Some, MatchOption}
 use Rattle.ac_search.specs.Searchers.{Searcher}
 use Rattle.ac_c.specs.declared.handle.held.Held.{Held}
 use Rattle.ac_c.specs.Streams.{Feeding}

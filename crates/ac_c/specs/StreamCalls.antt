@@ -9,7 +9,7 @@ use Rattle.ac_c.specs.declared.search.FoundMatch.{FoundMatch}
 use Rattle.ac_c.specs.declared.status.TheConstants.{ARGUMENTS, OK}
 use Rattle.ac_c.specs.Replaces.{IsOkOrMemory}
 use Rattle.ac_c.specs.Statuses.{status_unless}
-use Rattle.ac_c.specs.Streams.{Feeding, HasBegunStream, Writes, ended_stream, mode_of}
+use Rattle.ac_c.specs.Streams.{Feeding, HasBegunStream, TakesAndWrites, ended_stream, piece_mode}
 
 -- why a search of this mode is refused, if it is: a walk for mode 0, and else a listing
 abbrev pub begin_refusal : Built → ℕ → Option MatchError
@@ -56,7 +56,7 @@ end_status (Some s) = OK
 -- where there is one it begins anew
 abbrev pub begin_anew_status : Searcher → Option Feeding → ℤ
 begin_anew_status searcher None = ARGUMENTS
-begin_anew_status searcher (Some s) = begin_status searcher (mode_of s.search)
+begin_anew_status searcher (Some s) = begin_status searcher (piece_mode s.search)
 
 abbrev pub reset_status : Option Held → ℤ
 reset_status None = ARGUMENTS
@@ -68,13 +68,13 @@ pub record Resets (old : Option Held) (new : Option Held) : Type 0 where
   pub was : old ≡ Some held
   pub stream : Feeding
   pub there : held.stream ≡ Some stream
-  pub begun : MatchOption new ⊥ (HoldsBegun held.searcher (mode_of stream.search))
+  pub begun : MatchOption new ⊥ (HoldsBegun held.searcher (piece_mode stream.search))
 
 -- so many bytes of a piece were taken, and their matches were written
 pub record Feeds (piece : List ℕ) (taken : ℕ) (out new_out : List FoundMatch) (filled : ℕ) (old new : Feeding) : Type 0 where
   pub within : taken ≤ length piece
-  pub writes : Writes old piece out new_out filled new (drop taken piece)
+  pub writes : TakesAndWrites old piece out new_out filled new (drop taken piece)
 
 -- nothing follows, and the matches that are left were written
 abbrev pub Ends : List FoundMatch → List FoundMatch → ℕ → Feeding → Feeding → Type 0
-Ends out new_out filled old new = Writes (ended_stream old) [] out new_out filled new []
+Ends out new_out filled old new = TakesAndWrites (ended_stream old) [] out new_out filled new []

@@ -28,18 +28,18 @@ abbrev pub bytes_of_search : PieceSearch → List ℕ
 bytes_of_search (Walk v) = v.bytes
 bytes_of_search (Listing v) = v.bytes
 
-abbrev pub given_by : PieceSearch → ℕ
-given_by (Walk v) = v.given
-given_by (Listing v) = v.given
+abbrev pub count_given : PieceSearch → ℕ
+count_given (Walk v) = v.given
+count_given (Listing v) = v.given
 
 -- all matches of what it has taken
-abbrev pub found_by : PieceSearch → List Occurrence
-found_by (Walk v) = stream_result v.built v.bytes
-found_by (Listing v) = listed_taken v
+abbrev pub matches_taken : PieceSearch → List Occurrence
+matches_taken (Walk v) = stream_result v.built v.bytes
+matches_taken (Listing v) = listed_taken v
 
 -- the matches that it gave: the first ones of what it has taken
 abbrev pub matches_given : PieceSearch → List Occurrence
-matches_given s = take (given_by s) (found_by s)
+matches_given s = take (count_given s) (matches_taken s)
 
 -- it gave all that are settled
 abbrev pub IsAllWritten : PieceSearch → Type 0
@@ -81,29 +81,29 @@ pub record TakesNext (old : PieceSearch) (piece : List ℕ) (found : Option Occu
   pub parted : piece ≡ taken ++ left
   pub bytes : bytes_of_search new ≡ bytes_of_search old ++ taken
   pub gives : matches_given new ≡ matches_given old ++ as_list found
-  pub counted : given_by new ≡ given_by old + length (as_list found)
+  pub counted : count_given new ≡ count_given old + length (as_list found)
   pub settled : found ≡ None → IsAllWritten new
   pub whole : found ≡ None → TakesMore old → IsTakenWhole left new
 
 -- some bytes of a piece were taken, and their next matches were written to the beginning of `out`. Fewer than it has room for were
 -- written only where all that are settled were given, and the piece was taken whole
-pub record Writes (old : Feeding) (piece : List ℕ) (out new_out : List FoundMatch) (filled : ℕ) (new : Feeding) (left : List ℕ)
+pub record TakesAndWrites (old : Feeding) (piece : List ℕ) (out new_out : List FoundMatch) (filled : ℕ) (new : Feeding) (left : List ℕ)
     : Type 0 where
   pub same : (new.ended ≡ old.ended) × HasMovedOn old.search new.search
   pub taken : List ℕ
   pub parted : piece ≡ taken ++ left
   pub bytes : bytes_of_search new.search ≡ bytes_of_search old.search ++ taken
   pub written : matches_given new.search ≡ matches_given old.search ++ map match_of (take filled new_out)
-  pub counted : given_by new.search ≡ given_by old.search + filled
+  pub counted : count_given new.search ≡ count_given old.search + filled
   pub kept : drop filled new_out ≡ drop filled out
   pub fits : filled ≤ length out
   pub settled : filled < length out → IsAllWritten new.search
   pub whole : filled < length out → TakesMore old.search → IsTakenWhole left new.search
 
 -- the number of what it searches for
-abbrev pub mode_of : PieceSearch → ℕ
-mode_of (Walk v) = 0
-mode_of (Listing v) = 1
+abbrev pub piece_mode : PieceSearch → ℕ
+piece_mode (Walk v) = 0
+piece_mode (Listing v) = 1
 
 -- it has begun, and nothing came yet
 abbrev pub HasBegunSearch : Built → PieceSearch → Type 0
@@ -112,7 +112,7 @@ HasBegunSearch built (Listing v) = HasBegunPieceListing built v
 
 pub record HasBegunStream (built : Built) (mode : ℕ) (s : Feeding) : Type 0 where
   pub open' : s.ended ≡ false
-  pub mode' : mode_of s.search ≡ mode
+  pub mode' : piece_mode s.search ≡ mode
   pub search : HasBegunSearch built s.search
 
 -- so it has where nothing refuses it

@@ -2,7 +2,7 @@
 ghost use Rattle.std.specs.Prelude.{◌≡◌, neg_ℤ, pos};
 ghost use Rattle.ac_c.specs.Batches.{BeginsWithAll, listing_due, walk_due};
 ghost use Rattle.ac_c.specs.Searches.{overlapping_in, walked_in};
-ghost use Rattle.ac_c.specs.Streams.{IsAllWritten, ended_search, found_by, matches_given};
+ghost use Rattle.ac_c.specs.Streams.{IsAllWritten, ended_search, matches_taken, matches_given};
 ghost use Rattle.ac_c.specs.declared.stream.search.PieceSearch.{PieceSearch};
 ghost use Rattle.ac_c.specs.declared.status.TheConstants.{ANCHORED, ARGUMENTS, EMPTY_PATTERN, FOUND, LIMIT, MEMORY, OK, OVERLAPPING, UNANCHORED};
 
@@ -19,7 +19,7 @@ pub fn batches_begin_with_all()
 ///
 /// So what all calls on a stream have written, one after another, is what a walk or a listing of the text gives as a whole.
 pub fn streams_end_with_all()
-    ensures { (s : PieceSearch) → IsAllWritten (ended_search s) → matches_given (ended_search s) ≡ found_by (ended_search s) }
+    ensures { (s : PieceSearch) → IsAllWritten (ended_search s) → matches_given (ended_search s) ≡ matches_taken (ended_search s) }
 {}
 
 /// The statuses have these numbers, which the header of the C library names: 0 or more where a call has done its work, and below 0

@@ -9,7 +9,6 @@ use denote.Param.Send.{IsSend, IsSync}
 use Rattle.std.specs.declared.option.Option.{Option}
 use Rattle.std.specs.declared.option.Option.TheVariants.{None, Some}
 use Rattle.std.specs.declared.alloc.Global.{Global}
-use Rattle.std.specs.contracts.impls.GlobalAllocator.TheImpl.{ghosts}
 use Rattle.std.proofs.Crossing as heap_crosses
 use Rattle.std_alloc.proofs.SendSync.{lies, seen}
 use Rattle.ac_c.proofs.handle.held.Held.TheSendSync as box_content

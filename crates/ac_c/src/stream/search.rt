@@ -3,7 +3,7 @@ ghost use Rattle.std.specs.Prelude.{◌≡◌, false};
 ghost use Rattle.ac_search.specs.Built.{stream_refusal};
 ghost use Rattle.ac_search.specs.OverlappingPieces.{piece_listing_refusal};
 ghost use Rattle.ac_c.specs.declared.stream.search.PieceSearch.TheVariants.{Listing, Walk};
-ghost use Rattle.ac_c.specs.Streams.{AnswersBegun, TakesNext, Writes, ended_stream, mode_of};
+ghost use Rattle.ac_c.specs.Streams.{AnswersBegun, TakesNext, TakesAndWrites, ended_stream, piece_mode};
 
 use crate::search::FoundMatch;
 use ac_search::{AhoCorasick, Match, OverlappingPieceFinder, PieceFinder, StreamError};
@@ -95,7 +95,7 @@ impl Stream {
 
     /// Returns the number of what is searched for: 0 for a walk, 1 for a listing.
     pub fn mode(&self) -> u32
-        ensures { result ≡ mode_of self.now.search }
+        ensures { result ≡ piece_mode self.now.search }
     {
         match &self.search {
             PieceSearch::Walk(_) => 0,
@@ -124,7 +124,7 @@ impl Stream {
     /// Writes the next matches to `out`, and takes of the piece what these need. Returns how many matches it wrote: fewer than `out` has
     /// room for only where the piece was taken whole and no more are settled.
     pub fn write(&mut self, piece: &mut &[u8], out: &mut [FoundMatch]) -> usize
-        ensures { Writes self.old piece.old.now out.old out.new result self.new piece.new.now }
+        ensures { TakesAndWrites self.old piece.old.now out.old out.new result self.new piece.new.now }
     {
         for filled in 0..out.len() {
             match self.search.next(piece) {

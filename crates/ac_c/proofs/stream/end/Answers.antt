@@ -1,5 +1,5 @@
 use Rattle.ac_util.proofs.Prelude.{List, ℕ, [], refl, subst}
-use Rattle.ac_c.specs.Streams.{Feeding, Writes}
+use Rattle.ac_c.specs.Streams.{Feeding, TakesAndWrites}
 use Rattle.ac_c.proofs.StreamSteps.{none-left}
 use Rattle.ac_c.proofs.stream.end.Goals as goal
 
@@ -13,7 +13,7 @@ returns-clause-ends c = λ _.
       after = c.write.new.self;
       is = refl;
       so =
-          subst (λ (old : Feeding). Writes old [] c.args.out.now c.write.new.out c.write.result c.write.new.self []) c.end.ensures
-          (subst (λ (left : List ℕ). Writes c.end.new.self [] c.args.out.now c.write.new.out c.write.result c.write.new.self left)
+          subst (λ (old : Feeding). TakesAndWrites old [] c.args.out.now c.write.new.out c.write.result c.write.new.self []) c.end.ensures
+          (subst (λ (left : List ℕ). TakesAndWrites c.end.new.self [] c.args.out.now c.write.new.out c.write.result c.write.new.self left)
           (none-left writes.taken c.write.new.piece.now writes.parted) writes);
     }
