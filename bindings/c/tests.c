@@ -263,10 +263,11 @@ static void check_statuses(void) {
     const struct { int32_t status; const char *word; } rows[] = {
         {AC_OK, "done"}, {AC_FOUND, "found"}, {AC_ARGUMENTS, "argument"}, {AC_MEMORY, "allocation"}, {AC_LIMIT, "too many"},
         {AC_ANCHORED, " anchored"}, {AC_UNANCHORED, " unanchored"}, {AC_OVERLAPPING, "overlapping"},
+        {AC_EMPTY_PATTERN, "empty"},
     };
-    const int32_t others[] = {INT32_MIN, AC_OVERLAPPING - 1, AC_FOUND + 1, INT32_MAX};
-    for (size_t i = 0; i < 8; i++)
-        for (size_t k = 0; k < 8; k++)
+    const int32_t others[] = {INT32_MIN, AC_EMPTY_PATTERN - 1, AC_FOUND + 1, INT32_MAX};
+    for (size_t i = 0; i < 9; i++)
+        for (size_t k = 0; k < 9; k++)
             CHECK(!strstr(ac_error_text(rows[i].status), rows[k].word) == (i != k));
     for (size_t i = 0; i < 4; i++)
         CHECK(!strcmp(ac_error_text(others[i]), "no such status"));
