@@ -206,7 +206,8 @@ int32_t ac_stream_feed(ac_stream *stream, const void *piece, size_t piece_len, s
    left; else it is called again. AC_OK. */
 int32_t ac_stream_end(ac_stream *stream, ac_match *out, size_t out_len, size_t *filled);
 
-/* Begins the search of another text, from offset 0. AC_OK. */
+/* Begins the search of another text, from offset 0. AC_OK; or AC_MEMORY if more share its engine than a size_t counts: then the
+   stream is as it was. */
 int32_t ac_stream_reset(ac_stream *stream);
 
 /* Frees a stream, and leaves it empty. Does nothing if it is empty or null. */
