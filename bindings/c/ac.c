@@ -10,7 +10,7 @@ _Static_assert(offsetof(ac_span, anchored) == 16 && offsetof(ac_span, earliest) 
 _Static_assert(offsetof(ac_match, start) == 8 && offsetof(ac_match, end) == 16 && sizeof(ac_match) == 24, "matches");
 _Static_assert(offsetof(ac_cursor, given) == 8 && sizeof(ac_cursor) == 16, "cursors");
 _Static_assert(sizeof(ac_raw_handle) == sizeof(ac_searcher) && sizeof(ac_raw_handle) == sizeof(ac_stream) &&
-               sizeof(ac_raw_reader) == sizeof(ac_searcher), "handles");
+               sizeof(ac_raw_handle) == sizeof(ac_replacer) && sizeof(ac_raw_reader) == sizeof(ac_searcher), "handles");
 
 /* A slice that may be null where it is empty. */
 static int is_slice(const void *at, size_t len) {
@@ -205,4 +205,53 @@ void ac_stream_close(ac_stream *stream) {
         return;
     ac_raw_close((ac_raw_handle){stream->at});
     stream->at = 0;
+}
+
+static int is_replacer(const ac_replacer *replacer) {
+    return replacer && replacer->at;
+}
+
+int32_t ac_replacer_open(const ac_searcher *searcher, const void *bytes, size_t bytes_len, const size_t *ends, size_t ends_len,
+                         ac_replacer *out) {
+    if (!is_open(searcher) || !is_slice(bytes, bytes_len) || !is_slice(ends, ends_len) || !out || out->at)
+        return AC_ARGUMENTS;
+    ac_raw_reader reader = reader_of(searcher);
+    ac_raw_handle handle = {0};
+    int32_t status = ac_raw_replacer_open(&reader, slice(bytes), bytes_len, slice(ends), ends_len, &handle);
+    out->at = handle.at;
+    return status;
+}
+
+int32_t ac_replacer_feed(ac_replacer *replacer, const void *piece, size_t piece_len, size_t *taken, void *out, size_t out_len,
+                         size_t *filled) {
+    uint8_t none;
+    if (taken)
+        *taken = 0;
+    if (filled)
+        *filled = 0;
+    if (!is_replacer(replacer) || !is_slice(piece, piece_len) || !taken || !is_slice(out, out_len) || !filled)
+        return AC_ARGUMENTS;
+    ac_raw_handle handle = {replacer->at};
+    int32_t status = ac_raw_replacer_feed(&handle, slice(piece), piece_len, taken, out ? out : &none, out_len, filled);
+    replacer->at = handle.at;
+    return status;
+}
+
+int32_t ac_replacer_end(ac_replacer *replacer, void *out, size_t out_len, size_t *filled) {
+    uint8_t none;
+    if (filled)
+        *filled = 0;
+    if (!is_replacer(replacer) || !is_slice(out, out_len) || !filled)
+        return AC_ARGUMENTS;
+    ac_raw_handle handle = {replacer->at};
+    int32_t status = ac_raw_replacer_end(&handle, out ? out : &none, out_len, filled);
+    replacer->at = handle.at;
+    return status;
+}
+
+void ac_replacer_close(ac_replacer *replacer) {
+    if (!is_replacer(replacer))
+        return;
+    ac_raw_close((ac_raw_handle){replacer->at});
+    replacer->at = 0;
 }

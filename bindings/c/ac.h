@@ -29,12 +29,14 @@
      there. If the length is 0 the pointer may be null.
    - What a call writes overlaps nothing else that the same call reads or writes. No call writes to what it only reads.
    - A searcher is empty, which is all zero, or comes from ac_open or ac_clone and wasn't closed. A copy of the struct is the
-     same searcher: closing one closes both. So it is with a stream, which comes from ac_stream_open.
+     same searcher: closing one closes both. So it is with a stream, which comes from ac_stream_open, and with a replacer, which
+     comes from ac_replacer_open.
 
    Threads. Any number of them may use one searcher at once, in the calls that take a `const ac_searcher *`: they leave it
    as it was, and no search waits for another. The caller owes that
-   - what one call writes (a cursor, matches, numbers, a stream, another searcher) no other call uses meanwhile: a walk, a listing
-     or a stream is for one thread at a time, but many of them may go over one searcher at once;
+   - what one call writes (a cursor, matches, bytes, numbers, a stream, a replacer, another searcher) no other call uses
+     meanwhile: a walk, a listing, a stream or a replacer is for one thread at a time, but many of them may go over one searcher
+     at once;
    - ac_close waits for all: it is called once every other call with this searcher has returned;
    - between threads these are ordered, as the use of a searcher after ac_open or ac_clone is: by the start or the join of a
      thread, a lock, or an atomic of memory_order_seq_cst;
@@ -79,6 +81,9 @@ typedef struct ac_searcher { void *at; } ac_searcher;
 /* The search of a text that comes in pieces. Who opens it owns it, and has to close it. */
 typedef struct ac_stream { void *at; } ac_stream;
 enum { AC_WALK = 0, AC_LISTING = 1 };                                                        /* what a stream gives */
+
+/* The replacement in a text that comes in pieces. Who opens it owns it, and has to close it. */
+typedef struct ac_replacer { void *at; } ac_replacer;
 
 /* The settings of a searcher; ignore_case, prefilter and byte_classes are 0 or 1. start_kind says which searches it supports;
    with ignore_case the two cases of an ASCII letter are the same. engine and the last three change no answer. `size` is that of
@@ -152,7 +157,7 @@ int32_t ac_overlapping(const ac_searcher *searcher, const void *haystack, size_t
 /* Replaces each match of a walk over the whole haystack by the text of its pattern. `bytes` and `ends` are the texts, one for
    each pattern, as in ac_open. Writes the length of the result to *needed, and the result to `out` if out_len is enough; else
    `out` is as it was. AC_OK; AC_ARGUMENTS if there aren't as many texts as patterns, or if ends go down or past bytes_len;
-   AC_UNANCHORED; AC_MEMORY. */
+   AC_UNANCHORED; AC_MEMORY. Where you don't know the length, a replacer (ac_replacer_feed) writes the result in one pass. */
 int32_t ac_replace(const ac_searcher *searcher, const void *haystack, size_t haystack_len, const void *bytes,
                    size_t bytes_len, const size_t *ends, size_t ends_len, void *out, size_t out_len, size_t *needed);
 
@@ -212,6 +217,59 @@ int32_t ac_stream_reset(ac_stream *stream);
 
 /* Frees a stream, and leaves it empty. Does nothing if it is empty or null. */
 void ac_stream_close(ac_stream *stream);
+
+/* The replacement in a text that comes in pieces. Each piece is handed to ac_replacer_feed. What the calls write, one after
+   another, is the result: what ac_replace gives for the whole text, however it is cut and however much room each call has. A call
+   writes what is settled, which no byte to come can change: the text of a match once ac_stream_feed would write the match, and
+   any other byte at the latest once as many bytes of the text came after it as the longest pattern has. A replacer shares the
+   engine of its searcher, which may be closed before it. Only ac_replacer_open takes memory: for a copy of the texts, and for a
+   buffer of 65,536 bytes, or of eight times as many as the longest pattern has if that is more. This copies standard input to
+   standard output and replaces three words in it, with three buffers of 64 KiB, one of which is the replacer's:
+
+       #include "ac.h"
+       #include <stdio.h>
+       int main(void) {
+           static char piece[65536], out[65536];
+           size_t len, taken, filled, ends[] = {5, 10, 17}, text_ends[] = {4, 7, 7};
+           ac_options options = AC_DEFAULTS;
+           ac_searcher searcher = AC_EMPTY;
+           ac_replacer replacer = AC_EMPTY;
+           if (ac_open(&options, "applemapleSnapple", 17, ends, 3, &searcher) < 0) return 1;
+           if (ac_replacer_open(&searcher, "pearoak", 7, text_ends, 3, &replacer) < 0) return 1;
+           while ((len = fread(piece, 1, sizeof piece, stdin)) > 0)
+               for (size_t at = 0; at < len; at += taken) {
+                   ac_replacer_feed(&replacer, piece + at, len - at, &taken, out, sizeof out, &filled);
+                   fwrite(out, 1, filled, stdout);
+               }
+           do {
+               ac_replacer_end(&replacer, out, sizeof out, &filled);
+               fwrite(out, 1, filled, stdout);
+           } while (filled == sizeof out);
+           ac_replacer_close(&replacer);
+           ac_close(&searcher);
+           return ferror(stdin) || fclose(stdout) != 0;
+       } */
+
+/* Begins the replacement in a text. `bytes` and `ends` are the texts that replace matches, one for each pattern, as in
+   ac_replace. AC_OK; AC_ARGUMENTS if there aren't as many texts as patterns, if ends go down or past bytes_len, or if `out` isn't
+   empty; AC_UNANCHORED if the searcher doesn't support unanchored searches; AC_EMPTY_PATTERN; AC_MEMORY. Unless it is AC_OK,
+   `out` is as it was. */
+int32_t ac_replacer_open(const ac_searcher *searcher, const void *bytes, size_t bytes_len, const size_t *ends, size_t ends_len,
+                         ac_replacer *out);
+
+/* Takes bytes of a piece, and writes how many to *taken; writes the next bytes of the result, at most out_len, and how many they
+   are. What wasn't taken is fed again, before what follows it. Fewer than out_len are written only if the piece was taken whole
+   and no more of the result is settled; if out_len is 0, nothing is taken. AC_OK; AC_ARGUMENTS also if the piece isn't empty
+   though ac_replacer_end was called. Unless it is AC_OK, *taken and *filled are 0, and the replacer is as it was. */
+int32_t ac_replacer_feed(ac_replacer *replacer, const void *piece, size_t piece_len, size_t *taken, void *out, size_t out_len,
+                         size_t *filled);
+
+/* Says that nothing follows, and writes the next bytes of what is left of the result. Fewer than out_len are written only if no
+   more are left; else it is called again. AC_OK. */
+int32_t ac_replacer_end(ac_replacer *replacer, void *out, size_t out_len, size_t *filled);
+
+/* Frees a replacer, and leaves it empty. Does nothing if it is empty or null. */
+void ac_replacer_close(ac_replacer *replacer);
 
 #ifdef __cplusplus
 }

@@ -73,11 +73,26 @@ int32_t ac_raw_stream_reset(ac_raw_handle *stream) {
     return is_right(stream->at != NULL);
 }
 
+int32_t ac_raw_replacer_open(ac_raw_reader *searcher, const uint8_t *bytes, size_t bytes_len, const size_t *ends,
+                             size_t ends_len, ac_raw_handle *out) {
+    return is_right(searcher->at && bytes && !bytes_len && ends && !ends_len && out && !out->at);
+}
+
+int32_t ac_raw_replacer_feed(ac_raw_handle *replacer, const uint8_t *piece, size_t piece_len, size_t *taken, uint8_t *out,
+                             size_t out_len, size_t *filled) {
+    return is_right(replacer->at && piece && !piece_len && taken && out && !out_len && filled);
+}
+
+int32_t ac_raw_replacer_end(ac_raw_handle *replacer, uint8_t *out, size_t out_len, size_t *filled) {
+    return is_right(replacer->at && out && !out_len && filled);
+}
+
 int main(void) {
     const ac_options options = AC_DEFAULTS;
     const ac_span span = AC_WHOLE(0);
     ac_searcher empty = AC_EMPTY, searcher = {&empty};
     ac_stream none = AC_EMPTY, stream = {&empty};
+    ac_replacer no_replacer = AC_EMPTY, replacer = {&empty};
     ac_cursor cursor = {0, 0};
     ac_match match;
     ac_facts facts = AC_NO_FACTS;
@@ -96,6 +111,9 @@ int main(void) {
         ac_stream_feed(&stream, NULL, 0, &taken, NULL, 0, &number),
         ac_stream_end(&stream, NULL, 0, &number),
         ac_stream_reset(&stream),
+        ac_replacer_open(&searcher, NULL, 0, NULL, 0, &no_replacer),
+        ac_replacer_feed(&replacer, NULL, 0, &taken, NULL, 0, &number),
+        ac_replacer_end(&replacer, NULL, 0, &number),
     };
     int faults = facts.patterns != 1;
     for (size_t i = 0; i < sizeof statuses / sizeof *statuses; i++)

@@ -474,6 +474,40 @@ static void check_pointers_of_replace(const ac_searcher *searcher) {
     REFUSES(ac_replace(searcher, "a", 1, "b", 1, &end, 1, &byte, 1, NULL));
 }
 
+static void check_pointers_of_replacer(const ac_searcher *searcher) {
+    ac_replacer replacer = AC_EMPTY, none = AC_EMPTY;
+    size_t end = 1, taken = 9, filled = 9;
+    uint8_t byte = '#';
+    REFUSES(ac_replacer_open(&empty, "b", 1, &end, 1, &replacer));
+    REFUSES(ac_replacer_open(NULL, "b", 1, &end, 1, &replacer));
+    REFUSES(ac_replacer_open(searcher, NULL, 1, &end, 1, &replacer));
+    REFUSES(ac_replacer_open(searcher, "b", 1, NULL, 1, &replacer));
+    REFUSES(ac_replacer_open(searcher, "b", 1, &end, 1, NULL));
+    CHECK(!replacer.at && ac_replacer_open(searcher, "b", 1, &end, 1, &replacer) == AC_OK && replacer.at);
+    void *before = replacer.at;
+    REFUSES(ac_replacer_open(searcher, "b", 1, &end, 1, &replacer));
+    CHECK(replacer.at == before);
+    CHECK(ac_replacer_feed(&replacer, NULL, 0, &taken, NULL, 0, &filled) == AC_OK && !taken && !filled);
+    CHECK(ac_replacer_feed(&replacer, "a", 1, &taken, NULL, 0, &filled) == AC_OK && !taken && !filled);
+    REFUSES(ac_replacer_feed(&none, "a", 1, &taken, &byte, 1, &filled));
+    REFUSES(ac_replacer_feed(NULL, "a", 1, &taken, &byte, 1, &filled));
+    REFUSES(ac_replacer_feed(&replacer, NULL, 1, &taken, &byte, 1, &filled));
+    REFUSES(ac_replacer_feed(&replacer, "a", 1, NULL, &byte, 1, &filled));
+    REFUSES(ac_replacer_feed(&replacer, "a", 1, &taken, NULL, 1, &filled));
+    REFUSES(ac_replacer_feed(&replacer, "a", 1, &taken, &byte, 1, NULL));
+    REFUSES(ac_replacer_end(&none, &byte, 1, &filled));
+    REFUSES(ac_replacer_end(NULL, &byte, 1, &filled));
+    REFUSES(ac_replacer_end(&replacer, NULL, 1, &filled));
+    REFUSES(ac_replacer_end(&replacer, &byte, 1, NULL));
+    CHECK(replacer.at == before && byte == '#');
+    CHECK(ac_replacer_feed(&replacer, "a", 1, &taken, &byte, 1, &filled) == AC_OK && taken == 1 && filled == 1 && byte == 'b');
+    CHECK(ac_replacer_end(&replacer, NULL, 0, &filled) == AC_OK && !filled);
+    ac_replacer_close(&replacer);
+    CHECK(!replacer.at);
+    ac_replacer_close(&replacer);
+    ac_replacer_close(NULL);
+}
+
 static void check_pointers(void) {
     ac_searcher searcher = check_pointers_of_open();
     check_pointers_of_finds(&searcher);
@@ -481,6 +515,7 @@ static void check_pointers(void) {
     check_pointers_of_batches(ac_walk, &searcher);
     check_pointers_of_batches(ac_overlapping, &searcher);
     check_pointers_of_replace(&searcher);
+    check_pointers_of_replacer(&searcher);
     ac_close(&searcher);
 }
 

@@ -14,9 +14,9 @@ static char haystack[2000];
 /* What the calls answer about the haystack. */
 typedef struct answers {
     ac_match found, walked[MOST], listed[MOST], streamed[MOST];
-    size_t walked_len, listed_len, streamed_len, count, patterns, engine, replaced_len;
+    size_t walked_len, listed_len, streamed_len, count, patterns, engine, replaced_len, pieced_len;
     int32_t statuses[5];
-    char replaced[sizeof haystack];
+    char replaced[sizeof haystack], pieced[sizeof haystack];
 } answers;
 
 typedef int32_t search(const ac_searcher *, const void *, size_t, const ac_span *, ac_cursor *, ac_match *, size_t, size_t *);
@@ -47,6 +47,21 @@ static size_t all_streamed(const ac_searcher *searcher, ac_match *out) {
     return len + filled;
 }
 
+/* The replaced haystack, by a replacer of its own that is fed a few bytes at a time. */
+static size_t all_replaced(const ac_searcher *searcher, char *out) {
+    ac_replacer replacer = AC_EMPTY;
+    size_t len = 0, taken, filled;
+    if (ac_replacer_open(searcher, texts, sizeof texts - 1, text_ends, WORDS, &replacer) != AC_OK)
+        return sizeof haystack + 1;
+    for (size_t at = 0; at < sizeof haystack && len < sizeof haystack; at += taken, len += filled) {
+        size_t piece = sizeof haystack - at < 50 ? sizeof haystack - at : 50;
+        ac_replacer_feed(&replacer, haystack + at, piece, &taken, out + len, sizeof haystack - len, &filled);
+    }
+    ac_replacer_end(&replacer, out + len, sizeof haystack - len, &filled);
+    ac_replacer_close(&replacer);
+    return len + filled;
+}
+
 static void answer(const ac_searcher *searcher, answers *out) {
     const ac_span span = AC_WHOLE(sizeof haystack);
     ac_facts facts = AC_NO_FACTS;
@@ -62,6 +77,7 @@ static void answer(const ac_searcher *searcher, answers *out) {
     out->walked_len = all_matches(ac_walk, searcher, out->walked);
     out->listed_len = all_matches(ac_overlapping, searcher, out->listed);
     out->streamed_len = all_streamed(searcher, out->streamed);
+    out->pieced_len = all_replaced(searcher, out->pieced);
 }
 
 /* What a thread works with, and how many of its checks failed. */
@@ -146,7 +162,8 @@ int main(void) {
         answer(&searcher, &wanted);
         faults += wanted.patterns != WORDS || wanted.engine != engine || wanted.count != wanted.walked_len ||
                   wanted.walked_len < 90 || wanted.listed_len <= wanted.walked_len || wanted.listed_len > MOST ||
-                  wanted.streamed_len != wanted.listed_len || memcmp(wanted.streamed, wanted.listed, sizeof wanted.listed);
+                  wanted.streamed_len != wanted.listed_len || memcmp(wanted.streamed, wanted.listed, sizeof wanted.listed) ||
+                  wanted.pieced_len != wanted.replaced_len || memcmp(wanted.pieced, wanted.replaced, sizeof wanted.replaced);
         run(work, &searcher, &wanted, nothing);
         run(work_alone, &searcher, &wanted, ac_close);
         ac_close(&searcher);
