@@ -55,7 +55,7 @@ pub use replace::{Walk, replace_all, replace_all_bytes, replace_all_with, replac
 pub use scan::is_due;
 pub use stream::StreamFinder;
 pub use stream_iter::StreamFindIter;
-pub use stream_settled::Phase;
+pub use stream_settled::{Phase, buffer_len};
 pub use walk::FindIter;
 
 /// An automaton that finds patterns: it has states, and from each state every byte leads to a state. This ports

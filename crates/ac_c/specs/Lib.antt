@@ -4,6 +4,7 @@ pub mod Batches
 pub mod Handles
 pub mod Opens
 pub mod Ownership
+pub mod Replacers
 pub mod Replaces
 pub mod Searches
 pub mod Settings

@@ -38,15 +38,15 @@ AnswersHeld searcher mode result =
     MatchResult result (λ h. (begin_status searcher mode ≡ OK) × HoldsBegun searcher mode h)
     (λ status. (status ≢ OK) × IsOkOrMemory (begin_status searcher mode) status)
 
--- whether a search may be fed a piece: once its end was said only an empty one
-abbrev pub takes : Feeding → List ℕ → Bool
-takes s [] = true
-takes s (b ∷ piece) = not s.ended
+-- whether a piece may be fed: once the end was said only an empty one
+abbrev pub takes : Bool → List ℕ → Bool
+takes ended [] = true
+takes ended (b ∷ piece) = not ended
 
 -- ARGUMENTS where there is no search, or it was said that nothing follows and the piece isn't empty
 abbrev pub feed_status : Option Feeding → List ℕ → ℤ
 feed_status None piece = ARGUMENTS
-feed_status (Some s) piece = if takes s piece then OK else ARGUMENTS
+feed_status (Some s) piece = if takes s.ended piece then OK else ARGUMENTS
 
 -- ARGUMENTS where there is no search
 abbrev pub end_status : Option Feeding → ℤ

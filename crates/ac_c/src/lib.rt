@@ -1,7 +1,7 @@
 //! The exports for C of `ac_search`, which searches for many patterns at once.
 //!
-//! A handle owns a searcher, and the search of a text in pieces that it has begun, if it has; or it is empty. C lends the
-//! searcher to a call as a reader, and a slice as a pointer, which isn't null, and a length. All else is tested: whatever
+//! A handle owns a searcher, and the search of a text in pieces or the replacement in one that it has begun, if it has; or
+//! it is empty. C lends the searcher to a call as a reader, and a slice as a pointer, which isn't null, and a length. All else is tested: whatever
 //! numbers C passes, a call does no harm. Handles and readers are `Send`, so calls in many threads may read one searcher
 //! at once.
 #![tactic(auto)]
@@ -16,6 +16,7 @@ pub mod options;
 pub mod overlapping;
 pub mod reader;
 pub mod replace;
+pub mod replacer;
 pub mod search;
 pub mod status;
 pub mod stream;

@@ -124,6 +124,7 @@ fn begun(searcher: &AhoCorasick, mode: u32) -> Result<Held, i32>
     Ok(Held {
         searcher,
         stream: Some(stream),
+        replacer: None,
     })
 }
 

@@ -6,3 +6,8 @@ pub mod Words
 pub mod StreamsWritten
 pub mod StreamLoops
 pub mod Between
+pub mod DueWrites
+pub mod PieceReplacements
+pub mod PieceReplacerSteps
+pub mod ReplacerBegins
+pub mod ReplacerLoops

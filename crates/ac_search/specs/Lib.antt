@@ -3,9 +3,11 @@
 -- the constant `GREATEST` is in `Numbers`.
 pub mod Alike
 pub mod Engines
+pub mod PieceReplacements
 pub mod Prelude
 pub mod Searchers
 pub mod StreamLoops
+pub mod Windows
 -- what is asked, what occurs, and what answers it
 pub use Rattle.ac_util.specs.Input
 pub use Rattle.ac_util.specs.Occurrence

@@ -47,7 +47,7 @@ pub use ac_util::search::{Anchored, Input, Match, MatchKind, Span, StartKind};
 pub use ac_util::tally::Tally;
 pub use ahocorasick::{
     AhoCorasick, AhoCorasickBuilder, AhoCorasickKind, FindIter, FindOverlappingIter,
-    OverlappingPieceFinder, PieceFinder, StreamFindIter, StreamFinder, choose_kind,
+    OverlappingPieceFinder, PieceFinder, PieceReplacer, StreamFindIter, StreamFinder, choose_kind,
 };
 pub use texts::patterns_of;
 

@@ -15,6 +15,7 @@ mod listings;
 mod pieces;
 mod refusals;
 mod replace;
+mod replacers;
 mod rows;
 mod stream;
 mod stream_rows;

@@ -1,6 +1,6 @@
 -- The replaced text of a stream as far as the stream is settled, and then the rest.
 use Rattle.ac_util.proofs.Prelude.{◌≡◌, ◌≢◌, ℕ, suc, ◌+◌, ◌-◌, ◌<◌, ◌≤◌, false, true, List, [], ◌∷◌, ◌++◌, length, length-append, length-drop, take, drop, take-take, refl, ap, sym, subst, ◌∙◌, arith, All, slice_index_or, slice_range, rules, drop-append_seam, take-add, take-append_seam, drop-drop, drop-take, drop_all, take-append-drop, take-append-le, take_all, All-drop, All-head, All-same, common_steps}
-use Rattle.ac_util.specs.Prelude.{Built, exchanged_from, IsSettledAt, is_leftmost, kept_back_len, last_end, LeftmostFirst, LeftmostLongest, LiesIn, longest_len, MatchKind, Occurrence, replaced, replaced_from, Standard, stream_result, whole_input, without_last, has_empty, StartFrom, IsSettledBy, settled, AreInOrder}
+use Rattle.ac_util.specs.Prelude.{AreApart, StaysApart, Built, exchanged_from, IsSettledAt, is_leftmost, kept_back_len, last_end, LeftmostFirst, LeftmostLongest, LiesIn, longest_len, MatchKind, Occurrence, replaced, replaced_from, Standard, stream_result, whole_input, without_last, has_empty, StartFrom, IsSettledBy, settled, AreInOrder}
 use Rattle.ac_util.proofs.Exchanges.{exchanged-in_order}
 use Rattle.ac_util.proofs.GoesOn.{stream_result-begins}
 use Rattle.ac_util.proofs.Lying.{walk_result-lie}
@@ -21,7 +21,7 @@ part-front xs a b end ordered within =
 
 -- matches in order, of which the first ones end by a place and the others start no earlier: the haystack as far as there, with
 -- the first ones exchanged, and then the rest of it with the others
-exchanged-cut : (haystack : List ℕ) (write : Occurrence → List ℕ → List ℕ) (many place end : ℕ) (ms others : List Occurrence)
+pub exchanged-cut : (haystack : List ℕ) (write : Occurrence → List ℕ → List ℕ) (many place end : ℕ) (ms others : List Occurrence)
     → AreInOrder end many place ms → StartFrom end others → end ≤ length haystack
     → exchanged_from haystack write place (ms ++ others)
     ≡ exchanged_from (take end haystack) write place ms ++ exchanged_from haystack write end others
@@ -39,14 +39,14 @@ exchanged-cut haystack write many place end (m ∷ ms) others order starts withi
     )
 
 -- the first of matches in order are in order
-order-front : (bytes many place : ℕ) (ms others : List Occurrence) → AreInOrder bytes many place (ms ++ others)
+pub order-front : (bytes many place : ℕ) (ms others : List Occurrence) → AreInOrder bytes many place (ms ++ others)
     → AreInOrder bytes many place ms
 order-front bytes many place [] [] order = order
 order-front bytes many place [] (n ∷ others) order = grind (arith, common_steps)
 order-front bytes many place (m ∷ ms) others order = search (rules, order-front bytes many m.end ms others order.4)
 
 -- matches in order are in order as far as the last of them ends
-order-within : (bytes many place end : ℕ) (ms : List Occurrence) → AreInOrder bytes many place ms → place ≤ end
+pub order-within : (bytes many place end : ℕ) (ms : List Occurrence) → AreInOrder bytes many place ms → place ≤ end
     → last_end ms ≤ end → AreInOrder end many place ms
 order-within bytes many place end [] order from last = from
 order-within bytes many place end (m ∷ []) order from last = (order.0, order.1, last, order.3, last)
@@ -70,7 +70,7 @@ order-last bytes many place (m ∷ []) order = order.2
 order-last bytes many place (m ∷ n ∷ ms) order = order-last bytes many m.end (n ∷ ms) order.4
 
 -- a match that comes after some in order starts no earlier than the last of them ends
-order-next : (bytes many place : ℕ) (ms : List Occurrence) (m : Occurrence) (others : List Occurrence)
+pub order-next : (bytes many place : ℕ) (ms : List Occurrence) (m : Occurrence) (others : List Occurrence)
     → AreInOrder bytes many place (ms ++ m ∷ others) → last_end ms ≤ m.start
 order-next bytes many place [] m others order = omega arith
 order-next bytes many place (n ∷ []) m others order = order.4.0
@@ -86,12 +86,6 @@ ends-by (m ∷ n ∷ ms) place all = ends-by (n ∷ ms) place (λ k d within. al
 starts-from : (place : ℕ) (ms : List Occurrence) → All (λ (m : Occurrence). place ≤ m.start) ms → StartFrom place ms
 starts-from place [] all = tt
 starts-from place (m ∷ ms) all = all 0 m (omega arith)
-
--- the first of the matches that settle a stream as far as a place end by there, and the others start no earlier
-pub record AreApart (built : Built) (bytes : List ℕ) (given place : ℕ) : Type 0 where
-  pub within : place ≤ length bytes
-  pub last : last_end (take given (stream_result built bytes)) ≤ place
-  pub starts : StartFrom place (drop given (stream_result built bytes))
 
 pub all-apart : (built : Built) (bytes : List ℕ) (given place : ℕ) → given ≡ length (stream_result built bytes)
     → place ≤ length bytes → last_end (stream_result built bytes) ≤ place → AreApart built bytes given place
@@ -143,14 +137,8 @@ module _ (built : Built) where
       let end = late 0 m (omega arith) in
       omega arith
 
-  -- what a stream is settled by, as far as a place, stays so where more of it comes
-  abbrev StaysApart : List ℕ → List ℕ → ℕ → ℕ → Type 0
-  StaysApart bytes more given place =
-      (take given (stream_result built (bytes ++ more)) ≡ take given (stream_result built bytes))
-      × AreApart built (bytes ++ more) given place
-
   standard-apart : (bytes more : List ℕ) (given place : ℕ) → built.kind ≡ Standard
-      → given ≡ length (stream_result built bytes) → place ≡ settled built bytes → StaysApart bytes more given place
+      → given ≡ length (stream_result built bytes) → place ≡ settled built bytes → StaysApart built bytes more given place
   standard-apart bytes more given place standard all is =
       let on = stream_result-begins built standard bytes more in
       let same : take given (stream_result built (bytes ++ more)) ≡ stream_result built bytes =
@@ -171,7 +159,7 @@ module _ (built : Built) where
       )
 
   leftmost-apart : (bytes more : List ℕ) (given place : ℕ) → is_leftmost built.kind ≡ true → has_empty built ≡ false
-      → IsSettledAt built bytes given place → StaysApart bytes more given place
+      → IsSettledAt built bytes given place → StaysApart built bytes more given place
   leftmost-apart bytes more given place leftmost some h =
       let stays = settled-stays built leftmost bytes more (λ n. none-empty built.patterns n some) given place h in
       let long = length-append bytes more in let inside = h.within in (
@@ -184,12 +172,13 @@ module _ (built : Built) where
         },
       )
 
-  settled-apart : (bytes more : List ℕ) (given place : ℕ) → has_empty built ≡ false
-      → IsSettledBy built.kind built bytes given place → StaysApart bytes more given place
+  -- what a stream is settled by, as far as a place, stays so where more of it comes
+  pub settled-apart : (bytes more : List ℕ) (given place : ℕ) → has_empty built ≡ false
+      → IsSettledBy built.kind built bytes given place → StaysApart built bytes more given place
   settled-apart bytes more given place some settled = by built.kind refl settled
     where
       by : (kind : MatchKind) → built.kind ≡ kind → IsSettledBy kind built bytes given place
-          → StaysApart bytes more given place
+          → StaysApart built bytes more given place
       by Standard is h = standard-apart bytes more given place is h.0 h.1
       by LeftmostFirst is h = leftmost-apart bytes more given place (ap is_leftmost is) some h
       by LeftmostLongest is h = leftmost-apart bytes more given place (ap is_leftmost is) some h
@@ -203,7 +192,7 @@ module _ (built : Built) where
     whole-of bytes = exchanged_from bytes write 0 (stream_result built bytes)
 
     -- what is settled, and then the rest
-    cut-of : (bytes : List ℕ) (given place : ℕ) → AreApart built bytes given place
+    pub cut-of : (bytes : List ℕ) (given place : ℕ) → AreApart built bytes given place
         → whole-of bytes
         ≡ exchanged_from (take place bytes) write 0 (take given (stream_result built bytes))
         ++ exchanged_from bytes write place (drop given (stream_result built bytes))

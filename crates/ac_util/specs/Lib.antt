@@ -7,6 +7,7 @@ pub mod Pick
 pub mod Walk
 pub mod Replacement
 pub mod Stream
+pub mod StreamCuts
 pub mod Node
 pub mod Device
 pub mod Classes

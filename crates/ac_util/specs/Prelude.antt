@@ -18,6 +18,7 @@ unfoldable pub use Rattle.ac_util.specs.Prefilters.{first_bytes}
 pub use Rattle.ac_util.specs.Prefilters.Skip.{FirstOf, Needle}
 pub use Rattle.ac_util.specs.Replacement.{AlwaysWrites, Answer, AppendsAll, AppendsBeginning, AreInOrder, Calls, CallsNoMore, ClosureExchanges, Continues, Fails, MatchAnswer, OnlyAppends, ReplacementSteps, Replacing, StartFrom, Turn, WritesText, answer_of, exchanged_from, is_char_boundary, is_whole, replaced, replaced_from, whole_characters}
 pub use Rattle.ac_util.specs.Stream.{AlwaysWritesOut, AreDecided, CouldChange, CouldNextChange, ExchangesAll, ExchangesBeginning, FailsToRead, FailsToReplace, FailsToReplaceWith, IsAllSettled, IsOpen, IsSettled, IsSettledAt, IsSettledBy, NoneOpen, ReplacesStream, ReplacesStreamWith, WritesPiece, answer_of_result, by_length, exchanged_to, kept_back_len, last_end, settled, stream_exchanged, stream_result, text_of, without_last}
+pub use Rattle.ac_util.specs.StreamCuts.{AreApart, StaysApart}
 pub use Rattle.ac_util.specs.Walk.{IsAfter, continued, next_match, repeats, unless_repeated, walk}
 unfoldable pub use Rattle.ac_util.specs.Walk.{walk_after}
 pub use Rattle.ac_util.specs.declared.device.WriteError.{WriteError}

@@ -30,8 +30,9 @@ pub(super) fn settled_from(phase: Phase, kept: usize, read: usize, reserve: usiz
     }
 }
 
-/// Returns the size of a stream's buffer in bytes, given the length of the longest pattern.
-pub(super) fn buffer_len(longest: usize) -> usize
+/// Returns the size of a stream's buffer in bytes, given the length of the longest pattern: 65,536, or eight times that length if
+/// that is more.
+pub fn buffer_len(longest: usize) -> usize
     ensures { result ≡ max 65536 (min usize_max (8 * longest)) }
 {
     longest.saturating_mul(BUFFER_FACTOR).max(LEAST_BUFFER)

@@ -69,6 +69,23 @@ fn texts_come_in_pieces(rt: HostRuntime) -> Result<(), Fail> {
 }
 
 #[test]
+fn texts_in_pieces_are_replaced(rt: HostRuntime) -> Result<(), Fail> {
+    let alloc = rt.alloc();
+    let searcher = AhoCorasick::new(alloc, &[b"append", b"app"])?;
+    let mut replacer = searcher.try_piece_replacer(alloc, &[b"x", b"yy"])?;
+    let (mut piece, mut out) = (b"append the ap".as_slice(), [0; 4]);
+    are_equal!(rt; replacer.write(&mut piece, &mut out), 4); // there is room for no more
+    are_equal!(rt; out.as_slice(), b"yyen".as_slice());
+    are_equal!(rt; replacer.write(&mut piece, &mut out), 3); // the last 5 bytes are kept
+    let mut piece = b"p".as_slice();
+    are_equal!(rt; replacer.write(&mut piece, &mut out), 4);
+    replacer.end();
+    are_equal!(rt; replacer.write(&mut piece, &mut out), 1);
+    are_equal!(rt; &out[..1], b"y".as_slice()); // all was written
+    Ok(())
+}
+
+#[test]
 fn streams_are_exchanged_by_closures(rt: HostRuntime) -> Result<(), Fail> {
     let alloc = rt.alloc();
     let searcher = AhoCorasick::new(alloc, &[b"fox", b"brown", b"quick"])?;
