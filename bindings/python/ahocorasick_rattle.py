@@ -10,8 +10,14 @@ A file is searched piece by piece, and is never whole in memory:
         for match in AhoCorasick([b"error", b"warning"]).stream_find_iter(file):
             print(match.pattern, match.start, match.end)
 
+A copy with each match replaced is made in the same way:
+
+    with open("app.log", "rb") as source, open("new.log", "wb") as target:
+        AhoCorasick([b"error", b"warning"]).stream_replace_all(source, target, [b"ERROR", b"WARNING"])
+
 The variable AC_LIBRARY may name that file. Else it is looked for beside this one, and then where shared objects usually are.
 """
+import codecs
 import collections
 import ctypes
 import errno
@@ -21,7 +27,7 @@ import threading
 
 VERSION = 100
 BATCH = 512  # matches that one call may find
-PIECE = 65536  # bytes that are read of a file at once
+PIECE = 65536  # bytes that are read of a file, or written to one, at once
 KINDS = ("standard", "leftmost-first", "leftmost-longest")
 STARTS = ("unanchored", "anchored", "both")
 ENGINES = (None, "noncontiguous-nfa", "contiguous-nfa", "dfa")
@@ -106,10 +112,13 @@ def _load():
         "ac_stream_open": [searcher, ctypes.c_uint32, searcher], "ac_stream_close": [searcher],
         "ac_stream_feed": [searcher, ctypes.c_void_p, size, sizes, sizes, size, sizes],
         "ac_stream_end": [searcher, sizes, size, sizes],
+        "ac_replacer_open": [searcher, data, size, sizes, size, searcher], "ac_replacer_close": [searcher],
+        "ac_replacer_feed": [searcher, ctypes.c_void_p, size, sizes, ctypes.c_void_p, size, sizes],
+        "ac_replacer_end": [searcher, ctypes.c_void_p, size, sizes],
     }.items():
         call = getattr(library, name)
         call.argtypes, call.restype = arguments, ctypes.c_int32
-    library.ac_close.restype = library.ac_stream_close.restype = None
+    library.ac_close.restype = library.ac_stream_close.restype = library.ac_replacer_close.restype = None
     if library.ac_version() != VERSION:
         raise ImportError(f"libac.so has version {library.ac_version()}, and {VERSION} is needed")
     return library
@@ -184,6 +193,36 @@ class _Stream(_Open):
         """Returns the next of the matches that only the end settles. If that list is full, there may be more."""
         _raise_on(_library.ac_stream_end(self.searcher, self._numbers, BATCH, self._filled))
         return self._numbers[:3 * self._filled.value]
+
+
+class _Replacer(_Open):
+    """An open replacer of the library, which the end of a with block closes. It needs no searcher to be open, and is for one
+    thread at a time."""
+
+    def __init__(self, searcher, texts):
+        super().__init__(_library.ac_replacer_close)
+        self._out, self._taken, self._filled = ctypes.create_string_buffer(PIECE), ctypes.c_size_t(), ctypes.c_size_t()
+        data, ends = _joined(texts)
+        searcher._call(_library.ac_replacer_open, data, len(data), ends, len(ends), self.searcher)
+
+    def __enter__(self):
+        return self
+
+    def __exit__(self, *_):
+        self._close(self.searcher)
+
+    def parts_of(self, piece):
+        """Feeds a piece, and yields what it settles of the result, in parts. An empty piece is the end, which settles all."""
+        address, at, is_full = ctypes.cast(piece, ctypes.c_void_p).value, 0, True
+        while is_full:
+            if piece:
+                _raise_on(_library.ac_replacer_feed(self.searcher, address + at, len(piece) - at, self._taken, self._out, PIECE,
+                                                    self._filled))
+                at += self._taken.value
+            else:
+                _raise_on(_library.ac_replacer_end(self.searcher, self._out, PIECE, self._filled))
+            is_full = self._filled.value == PIECE
+            yield self._out[:self._filled.value]
 
 
 class _Characters:
@@ -276,6 +315,34 @@ def _reader(file, form):
         raise TypeError(f"a file is needed, and not {type(file).__name__}")
     size = PIECE if form is bytes else PIECE // 4  # A character has up to four bytes.
     return lambda: _given(file.read(size))
+
+
+def _writer(file):
+    """Returns a call that writes bytes to a file, or the text that they are. It keeps a character until it has all bytes of it."""
+    if not hasattr(file, "write"):
+        raise TypeError(f"a file is needed, and not {type(file).__name__}")
+    characters = codecs.getincrementaldecoder("utf-8")("surrogatepass")
+
+    def write(data, form):
+        if form is bytes:
+            _write_all(file, data)
+        elif text := characters.decode(data):
+            file.write(text)
+
+    return write
+
+
+def _write_all(file, data):
+    """Writes bytes, by more than one call if the file takes fewer, as one without a buffer may."""
+    while data:
+        count = file.write(data)
+        if count is None:
+            if isinstance(file, io.RawIOBase):
+                raise BlockingIOError(errno.EAGAIN, "the file takes nothing yet")
+            return  # Other files take all, and some don't say so.
+        if not 0 < count <= len(data):
+            raise OSError(f"{count} bytes were written, and there were {len(data)}")
+        data = data[count:]
 
 
 def _given(it):
@@ -397,6 +464,32 @@ class AhoCorasick:
             for match in AhoCorasick([b"he", b"she"]).stream_find_overlapping_iter(io.BytesIO(b"ushers")): ...
         """
         return _FileMatches(self, LISTING, file)
+
+    def stream_replace_all(self, source, target, replacements):
+        """Writes to the target what the source has from here on, with each match of find_iter replaced by the item of its pattern
+        in replacements: in all, what replace_all returns for the whole.
+
+            AhoCorasick([b"he"]).stream_replace_all(io.BytesIO(b"ushers"), sys.stdout.buffer, [b"she"])
+
+        Both are files of bytes or both of str, like the patterns. The source is read as stream_find_iter reads one. The target
+        is written to by write(it). If that returns fewer bytes than it was given, the rest is written by further calls; None
+        from a file without a buffer (io.RawIOBase) is a BlockingIOError, and from any other it means that all was taken. A file of
+        str always takes all.
+        Before more is read, each match that no text to come can change is written, and all before it; of the bytes after it at
+        most as many are held back as the longest pattern has, and a character that isn't whole. In memory are pieces of 64 KiB,
+        the replacements, and a buffer of 64 KiB, or of eight times the longest pattern if that is more.
+        What a file raises passes through. What was written by then stays written, but what was held back is lost, so files that
+        don't block are of little use here. An empty pattern, and what replace_all refuses, is refused before anything is read.
+        The target isn't flushed, and neither file is closed.
+        """
+        read, write = _reader(source, self._type), _writer(target)
+        with _Replacer(self, [self._bytes_of(replacement) for replacement in replacements]) as replacer:
+            is_over = False
+            while not is_over:
+                piece = read()
+                for part in replacer.parts_of(self._bytes_of(piece)):
+                    write(part, type(piece))
+                is_over = not piece
 
     def replace_all(self, haystack, replacements):
         """Returns the haystack with each match of find_iter replaced by the item of its pattern in replacements."""

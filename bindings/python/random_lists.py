@@ -73,6 +73,18 @@ class Pieces:
         return piece
 
 
+class Target:
+    """A file that takes a random part of the bytes that it is given, or all of a text."""
+
+    def __init__(self, numbers, text):
+        self.numbers, self.text = numbers, text[:0]
+
+    def write(self, piece):
+        count = self.numbers.randint(1, len(piece)) if isinstance(piece, bytes) else len(piece)
+        self.text += piece[:count]
+        return count
+
+
 def faults_of(numbers, letters, patterns, haystack, kind):
     """Compares all searches over a list under a match kind, with random settings and a random span, and yields what differs."""
     span = sorted(numbers.choices(range(len(haystack) + 1), k=2)) if numbers.random() < 0.5 else [0, len(haystack)]
@@ -102,6 +114,9 @@ def faults_of(numbers, letters, patterns, haystack, kind):
             if all(patterns):
                 wanted_and_got["stream_find_iter"] = (
                     list(whole.walk(False)), list(searcher.stream_find_iter(Pieces(numbers, haystack))))
+                target = Target(numbers, haystack)
+                searcher.stream_replace_all(Pieces(numbers, haystack), target, texts)
+                wanted_and_got["stream_replace_all"] = (wanted_and_got["replace_all"][0], target.text)
                 if kind == "standard":
                     wanted_and_got["stream_find_overlapping_iter"] = (
                         sorted(whole.all, key=ORDERS["standard"]),

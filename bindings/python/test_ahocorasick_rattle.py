@@ -7,6 +7,7 @@ import itertools
 import os
 import pathlib
 import pickle
+import random
 import signal
 import subprocess
 import sys
@@ -588,6 +589,311 @@ class Files(unittest.TestCase):
         self.assertRaisesRegex(ValueError, "running", next, matches)
 
 
+class Target:
+    """A file of bytes or of str. It takes at most `room` bytes with each write, and raises the failure once it would have more
+    than `most`. It returns what `says` makes of a count."""
+
+    def __init__(self, form, room=None, most=sys.maxsize, failure=None, says=lambda count: count):
+        self.taken, self.sizes, self._room, self._most, self._failure, self._says = form(), [], room, most, failure, says
+
+    def write(self, piece):
+        if type(piece) is not type(self.taken) or not piece:
+            raise AssertionError(f"{piece!r} is written")
+        whole = self.taken + piece[:self._room]
+        self.sizes.append(len(whole) - len(self.taken))
+        self.taken = whole[:self._most]
+        if len(whole) > self._most:
+            raise self._failure
+        return self._says(self.sizes[-1])
+
+
+class RawTarget(Target, io.RawIOBase):
+    """The same, which has no buffer."""
+
+
+class Replacements(unittest.TestCase):
+    """What is written where matches are replaced in files."""
+
+    def compare(self, searcher, text, replacements, *files):
+        """What is written for each of the files, which has this text, is what replaces it."""
+        wanted = searcher.replace_all(text, replacements)
+        for file in files:
+            target = Target(type(text))
+            self.assertIsNone(searcher.stream_replace_all(file(), target, replacements))
+            self.assertTrue(wanted == target.taken, (searcher.kind, text[:40], replacements[:9]))
+
+    @staticmethod
+    def cut(text, size):
+        """Returns a call that opens a file of a text, in pieces of a size."""
+        return lambda: Pieces(*[text[at:at + size] for at in range(0, len(text), size)], text[:0])
+
+    @staticmethod
+    def handles():
+        """Returns a list to which each replacer is added that is opened meanwhile, and what to enter for that."""
+        opened = []
+        return opened, watched("ac_replacer_open", lambda *arguments: opened.append(arguments[-1]))
+
+    def test_all_cuts(self):
+        """However a short text is cut, and however little room a part has, it is replaced as the whole."""
+        numbers, forms = random.Random(1), (b"ab", "ab", "\u0436a", "\U0001f600\u20ac", "\ud83d\ude00")
+        for words, kind, letters in itertools.product(Files.WORDS, KINDS, forms):
+            written = lambda word: Batches.written(word, letters)
+            with AhoCorasick(map(written, words), kind=kind) as searcher:
+                for text in map(written, ("", "b", "abab", "aabb", "babab", "aaabab")):
+                    replacements = [written("".join(numbers.choices("ab", k=numbers.randint(0, 3)))) for _ in words]
+                    for pieces, room in itertools.product(cuts(text), (1, 2, 5, PIECE)):
+                        files = [lambda: Pieces(*pieces), lambda: Into(*pieces)]
+                        with unittest.mock.patch.object(ahocorasick_rattle, "PIECE", room):
+                            into = isinstance(text, bytes) and words and room == PIECE
+                            self.compare(searcher, text, replacements, *files[:2 if into else 1])
+
+    def test_random_texts(self):
+        """Long ones, in random pieces, by each engine with each kind."""
+        numbers = random.Random(2)
+        forms = (b"ab", b"abAB", "abA", "a\u00e9\u20ac\U0001f600")
+        for letters, kind, engine, _ in itertools.product(forms, KINDS, ENGINES, range(4)):
+            word = lambda least, most: letters[:0].join(
+                letters[at:at + 1] for at in numbers.choices(range(len(letters)), k=numbers.randint(least, most)))
+            patterns = [word(1, 5) for _ in range(numbers.randint(0, 6))]
+            replacements, text = [word(0, 40) for _ in patterns], word(0, 5000)
+            with AhoCorasick(patterns, kind=kind, engine=engine, ignore_case=numbers.random() < 0.5) as searcher:
+                for most, room in ((4, PIECE), (900, 100), (5000, PIECE)):
+                    ends = [0, *sorted(numbers.sample(range(len(text) + 1), min(len(text), len(text) // most))), len(text)]
+                    pieces = [text[start:end] for start, end in zip(ends, ends[1:]) if start < end]
+                    with unittest.mock.patch.object(ahocorasick_rattle, "PIECE", room):
+                        self.compare(searcher, text, replacements, lambda: Pieces(*pieces, text[:0]))
+
+    def test_parts_at_the_edge(self):
+        """A result may fill the last part or not, and a part may end inside a character."""
+        for count in (PIECE - 1, PIECE, PIECE + 1, 2 * PIECE, 3 * PIECE + 5):
+            with AhoCorasick([b"c", b"de"]) as searcher:
+                self.compare(searcher, b"ab" * count, [b"", b""], self.cut(b"ab" * count, PIECE))
+                self.compare(searcher, b"xc", [b"d" * (count - 1), b""], self.cut(b"xc", 2))
+        for front, letter in itertools.product(range(4), ("\u0436", "\u20ac", "\U0001f600", "\udc80")):
+            text = "x" * front + letter * PIECE + "c"
+            with AhoCorasick(["c"], kind="leftmost-first") as searcher:
+                self.compare(searcher, text, [letter * PIECE], self.cut(text, PIECE // 4), self.cut(text, 77))
+
+    def test_long_patterns(self):
+        """Longer than a part, and met in full or almost, in bytes and in characters."""
+        for letters, kind in itertools.product((b"abc", "\u0436bc"), KINDS):
+            a, b, c = letters[:1], letters[1:2], letters[2:]
+            long = (a + b) * (PIECE // 2 + 50) + c
+            text = (long[:-1] + b + long[5:] + c + long) * 3 + long[:-2]
+            with AhoCorasick([long, c + c, b + c], kind=kind) as searcher:
+                for size in (1000, PIECE, len(text)):
+                    self.compare(searcher, text, [b + b, a, c], self.cut(text, size))
+
+    def test_files_of_the_library(self):
+        """In memory, open ones with a buffer and without, from where they are, in text with other ends of lines."""
+        text = "".join(f"{number} \u0436 apple \U0001f600\r\n" for number in range(6_000))
+        with tempfile.TemporaryDirectory() as folder:
+            paths = [pathlib.Path(folder) / name for name in ("source", "target")]
+            paths[0].write_bytes(text.encode())
+            for kind, (reading, writing) in itertools.product(KINDS, ((0, -1), (-1, 0), (-1, -1))):
+                with AhoCorasick([b"apple", b"9", b"99 \xd0", b"\r\n1"], kind=kind) as searcher:
+                    with open(paths[0], "rb", reading) as source, open(paths[1], "wb", writing) as target:
+                        source.seek(3)
+                        target.write(b"front")
+                        searcher.stream_replace_all(source, target, [b"pear", b"", b"1\0", b"\xff" * 99])
+                        self.assertFalse(source.closed or target.closed)
+                    self.assertEqual(b"front" + searcher.replace_all(text.encode()[3:], [b"pear", b"", b"1\0", b"\xff" * 99]),
+                                     paths[1].read_bytes())
+                replacements = ["pear", "", "\u20ac", "\n", "\U0001f34e\u0436"]
+                with AhoCorasick(["apple", "9", "99 \u0436", "\n1", "\U0001f600"], kind=kind) as searcher:
+                    for newline, read in ((None, text.replace("\r\n", "\n")), ("", text)):
+                        with open(paths[0], newline=newline, encoding="utf-8") as source:
+                            with open(paths[1], "w", newline="", encoding="utf-16") as target:
+                                searcher.stream_replace_all(source, target, replacements)
+                        self.assertEqual(searcher.replace_all(read, replacements), paths[1].read_bytes().decode("utf-16"))
+                        target = io.StringIO(newline="")
+                        searcher.stream_replace_all(io.StringIO(read, newline=""), target, replacements)
+                        self.assertEqual(searcher.replace_all(read, replacements), target.getvalue())
+
+    def test_targets_that_take_few_bytes(self):
+        """They are given the rest, as often as it takes. A text is written at once, whatever is returned."""
+        wanted = b"x<" + b"-" * 30 + b">yx"
+        for room, target in itertools.product((1, 2, 7, 32, None), (Target, RawTarget)):
+            target = target(bytes, room)
+            AhoCorasick([b"ab"]).stream_replace_all(Pieces(b"xa", b"byx", b""), target, [b"<" + b"-" * 30 + b">"])
+            self.assertEqual(wanted, target.taken)
+            self.assertLessEqual(len(target.sizes), 4 if room is None else -(-len(wanted) // room) + 3)
+        for says in (lambda count: None, lambda count: count):
+            target = Target(bytes, says=says)
+            AhoCorasick([b"a"]).stream_replace_all(Pieces(b"xa", b"a", b""), target, [b"bc"])
+            self.assertEqual(b"xbcbc", target.taken)
+        for said in (None, 0, 1, 99):
+            target = Target(str, says=lambda count: said)
+            AhoCorasick(["a"]).stream_replace_all(Pieces("xa", "a", ""), target, ["\u0436c"])
+            self.assertEqual("x\u0436c\u0436c", target.taken)
+        for said in (0, -1, 4, 1 << 64):
+            source = Pieces(b"xa", b"a", b"")
+            self.assertRaisesRegex(OSError, str(said), AhoCorasick([b"a"]).stream_replace_all, source,
+                                   Target(bytes, says=lambda count: said), [b"bc"])
+            self.assertEqual([b"a", b""], source.pieces)
+
+    def test_a_pipe(self):
+        """One that doesn't block is an error where it is empty, or full: what it has then is the beginning of the result."""
+        searcher, replacements, text = AhoCorasick([b"ab", b"b"]), [b"<-->", b""], b"xab" * 4 * PIECE
+        reading, writing = os.pipe()
+        os.set_blocking(reading, False)
+        os.set_blocking(writing, False)
+        with open(reading, "rb") as source, open(writing, "wb", 0) as full:
+            for raw in (source, source.raw):
+                target = Target(bytes)
+                full.write(b"abxa")
+                self.assertRaises(BlockingIOError, searcher.stream_replace_all, raw, target, replacements)
+                self.assertEqual(b"<-->", target.taken[:4])
+            self.assertRaises(BlockingIOError, searcher.stream_replace_all, io.BytesIO(text), full, replacements)
+            written = source.read()
+            self.assertGreater(len(written), 1000)
+            self.assertTrue(searcher.replace_all(text, replacements).startswith(written))
+
+    def test_when_it_is_written(self):
+        """All that is settled is written before more is read."""
+        for form, size in ((str, PIECE // 4), (str.encode, PIECE)):
+            pieces, had, target = Pieces(*map(form, ("xxx", "xxxxabc", "d", "abcdxy", "a", "b", ""))), [], Target(type(form("")))
+            source = unittest.mock.Mock(spec=["read"], read=lambda size: had.append(len(target.taken)) or pieces.read(size))
+            AhoCorasick([form("abcd")]).stream_replace_all(source, target, [form("--")])
+            self.assertTrue(all(map(int.__ge__, had, [0, 0, 6, 9, 11, 11, 11])), had)
+            self.assertEqual((form("xxxxxxx----xyab"), [size] * 7), (target.taken, pieces.sizes))
+        for kind, letter in itertools.product(KINDS, ("\u0436", "\u20ac", "\U0001f600")):
+            source, target = Pieces(letter * 3, "a" + letter, OSError()), Target(str)
+            with AhoCorasick(["a", letter * 4], kind=kind) as searcher:
+                self.assertRaises(OSError, searcher.stream_replace_all, source, target, [letter, ""])
+            self.assertEqual(letter * 4, target.taken)
+
+    def test_failures(self):
+        """What a file raises passes through after what is settled, or was taken. The replacer is closed at once."""
+        for raised, kind, form in itertools.product((OSError, BlockingIOError, KeyboardInterrupt), KINDS, (str, str.encode)):
+            opened, watching = self.handles()
+            texts, text = [form("<\u0436>"), form(""), form("[[[")], form("xabyaabab")
+            with watching, AhoCorasick([form("a"), form("ab"), form("b")], kind=kind) as searcher:
+                whole = searcher.replace_all(text, texts)
+                for at in range(len(text) + 1):
+                    target, failure = Target(type(text)), raised("other")
+                    source = Pieces(*[text[i:i + 2] for i in range(0, at, 2)], failure, text)
+                    with self.assertRaises(raised) as caught:
+                        searcher.stream_replace_all(source, target, texts)
+                    self.assertIs(failure, caught.exception)
+                    self.assertEqual([text], source.pieces)
+                    self.assertTrue(whole.startswith(target.taken))
+                    self.assertGreaterEqual(len(target.taken), at - 4)
+                for most in range(len(whole)):
+                    failure = raised("other")
+                    target = Target(type(text), None if form is str else 2, most, failure)
+                    with self.assertRaises(raised) as caught:
+                        searcher.stream_replace_all(self.cut(text, 2)(), target, texts)
+                    self.assertIs(failure, caught.exception)
+                    self.assertEqual(whole[:most], target.taken)
+                self.assertEqual(len(text) + 1 + len(whole), len(opened))
+                self.assertEqual({None}, {handle.at for handle in opened})
+
+    def test_failures_inside_a_character(self):
+        """Whole characters were written, and no other replacement has the rest."""
+        for kind, letter in itertools.product(KINDS, ("\u20ac", "\U0001f600")):
+            with AhoCorasick(["ab"], kind=kind) as searcher:
+                for _ in range(2):
+                    target = Target(str)
+                    self.assertRaises(OSError, searcher.stream_replace_all, Pieces("x" + letter, OSError()), target, ["y"])
+                    self.assertEqual("x", target.taken)
+                self.compare(searcher, "zab", ["y"], self.cut("zab", 1))
+
+    def test_wrong_files(self):
+        """What is no file is refused before anything is read, and what a file gives if it can't be searched."""
+        for pattern, wrong in (("a", (b"a", b"", 1, bytearray(b"a"), [])), (b"a", ("a", "", 1, [b"a"], []))):
+            searcher, target = AhoCorasick([pattern]), Target(type(pattern))
+            for no_file in ("a", b"a", 1, None, ["a"]):
+                self.assertRaises(TypeError, searcher.stream_replace_all, no_file, target, [pattern])
+                self.assertRaises(TypeError, searcher.stream_replace_all, Pieces(), no_file, [pattern])
+            for piece in wrong:
+                target = Target(type(pattern))
+                self.assertRaises(TypeError, searcher.stream_replace_all, Pieces(pattern, piece), target, [pattern + pattern])
+                self.assertEqual(pattern + pattern, target.taken)
+        for count in (-1, PIECE + 1, 1 << 64):
+            self.assertRaisesRegex(OSError, str(count), AhoCorasick([b"a"]).stream_replace_all, Into(count), Target(bytes), [b""])
+        self.assertRaises(TypeError, AhoCorasick(["a"]).stream_replace_all, Into(b""), Target(str), [""])
+        self.assertRaises(TypeError, AhoCorasick(["a"]).stream_replace_all, Pieces("a", ""), io.BytesIO(), ["b"])
+        for form in (str, str.encode):
+            self.compare(AhoCorasick([]), form("\u0436a"), [], self.cut(form("\u0436a"), 1))
+            whole = form("ba" * PIECE)
+            self.compare(AhoCorasick([form("a")]), whole, [form("\u0436")], lambda: Pieces(whole, form("")))
+
+    def test_refusals(self):
+        """They come before anything is read or written."""
+        for form in (str, str.encode):
+            a, target = form("a"), Target(type(form("")))
+            for settings, refused in ((dict(start="anchored"), UnanchoredError), (dict(start="both"), EmptyPatternError)):
+                with AhoCorasick([a, form("")], **settings) as searcher:
+                    self.assertRaises(refused, searcher.stream_replace_all, Pieces(), target, [a, a])
+            with AhoCorasick([a], start="anchored") as searcher:
+                self.assertRaises(UnanchoredError, searcher.stream_replace_all, Pieces(), target, [a])
+            with AhoCorasick([a, a]) as searcher:
+                for count in (0, 1, 3):
+                    self.assertRaises(ArgumentError, searcher.stream_replace_all, Pieces(), target, [a] * count)
+                for wrong in ("a" if form is str.encode else b"a", 1, None, bytearray(b"a")):
+                    self.assertRaises(TypeError, searcher.stream_replace_all, Pieces(), target, [a, wrong])
+                refused = lambda *_: ahocorasick_rattle.MEMORY
+                with unittest.mock.patch.object(ahocorasick_rattle._library, "ac_replacer_open", refused):
+                    self.assertRaises(MemoryError, searcher.stream_replace_all, Pieces(), target, [a, a])
+            self.assertRaisesRegex(ArgumentError, "closed", searcher.stream_replace_all, Pieces(), target, [a, a])
+            self.assertEqual([], target.sizes)
+        self.assertRaises(ArgumentError, AhoCorasick([]).stream_replace_all, Pieces(), target, ["a"])
+
+    def test_memory_is_bounded(self):
+        """A long file isn't kept, whether it has matches or not, and neither is a long result."""
+        for piece, kind in itertools.product((b"ab" * 30_000, "ab" * 8_000, "\u0436a" * 8_000), KINDS):
+            form = type(piece) if isinstance(piece, str) else str.encode
+            for word, text, growth in (("c", "d", 0), ("a", "bc", 1), ("a", "x" * 1000, 999)):
+                count, taken = 3 if growth > 1 else 100, []
+                pieces = itertools.chain([piece] * count, [piece[:0]])
+                file = unittest.mock.Mock(spec=["read", "write"], read=lambda size: next(pieces),
+                                          write=lambda part: taken.append(len(part)))
+                with AhoCorasick([form(word)], kind=kind) as searcher:
+                    tracemalloc.start()
+                    searcher.stream_replace_all(file, file, [form(text)])
+                    self.assertLess(tracemalloc.get_traced_memory()[1], 1_000_000)
+                    tracemalloc.stop()
+                self.assertEqual(count * (len(piece) + growth * piece.count(form("a"))), sum(taken))
+
+    def test_lives(self):
+        """It ends as usual though the searcher is closed meanwhile. It needs no other reference to it, and leaves none."""
+        opened, watching = self.handles()
+        with watching:
+            for end in (b"", OSError()):
+                searcher, target = AhoCorasick([b"ab"]), Target(bytes)
+                memory, pieces = weakref.ref(searcher._open), Pieces(b"xa", b"bxab", end)
+                source = unittest.mock.Mock(spec=["read"], read=lambda size: searcher.close() or pieces.read(size))
+                with contextlib.suppress(OSError):
+                    searcher.stream_replace_all(source, target, [b"-"])
+                self.assertEqual((b"x-x-", None), (target.taken, memory()))
+                self.assertRaisesRegex(ArgumentError, "closed", searcher.stream_replace_all, source, target, [b"-"])
+            with self.assertRaises(SystemExit), ahocorasick_rattle._Replacer(AhoCorasick([b"ab"]), [b"-"]) as replacer:
+                self.assertIsNotNone(replacer.searcher.at)
+                sys.exit()
+            self.assertIsNone(replacer.searcher.at)
+            replacer = ahocorasick_rattle._Replacer(AhoCorasick([b"ab"]), [b"-"])
+            self.assertIsNotNone(replacer.searcher.at)
+            del replacer
+        self.assertEqual([None] * 4, [handle.at for handle in opened])
+
+    def test_the_file_may_use_the_searcher(self):
+        """While it reads or writes, also to replace in another file."""
+        searcher = AhoCorasick(["ab", "b"])
+
+        def doubled(text):
+            target = io.StringIO()
+            searcher.stream_replace_all(io.StringIO(text), target, ["bab", "a"])
+            return target.getvalue()
+
+        target = io.StringIO()
+        pieces = iter(("xa", "ba", "b", ""))
+        file = unittest.mock.Mock(spec=["read", "write"], read=lambda size: doubled(next(pieces)),
+                                  write=lambda text: target.write(doubled(text)))
+        searcher.stream_replace_all(file, file, ["ab", "b"])
+        self.assertEqual(doubled(doubled("xa") + doubled("ba") + doubled("b")), target.getvalue())
+
+
 class Lives(unittest.TestCase):
     """When a searcher can be used."""
 
@@ -661,12 +967,18 @@ class Threads(unittest.TestCase):
     def test_threads_share_a_searcher(self):
         """Each has the answers that one alone has."""
         searcher, text, answers = AhoCorasick(FRUIT.split()), FRUIT * 100, []
+
+        def replaced_by_pieces():
+            target = io.StringIO()
+            searcher.stream_replace_all(io.StringIO(text), target, FRUIT.split()[::-1])
+            return target.getvalue()
+
         wanted = (list(searcher.find_iter(text)), list(searcher.find_overlapping_iter(text)), searcher.count(text),
-                  searcher.replace_all(text, FRUIT.split()[::-1]))
+                  searcher.replace_all(text, FRUIT.split()[::-1]), searcher.replace_all(text, FRUIT.split()[::-1]))
         self.at_once([lambda: answers.extend(
             (list(searcher.find_iter(text)), list(searcher.find_overlapping_iter(text)), searcher.count(text),
-             searcher.replace_all(text, FRUIT.split()[::-1])) for _ in range(10))] * 8)
-        self.assertEqual([wanted] * 80, answers)
+             searcher.replace_all(text, FRUIT.split()[::-1]), replaced_by_pieces()) for _ in range(10))] * 8)
+        self.assertTrue([wanted] * 80 == answers)
         self.assertGreater(len(wanted[1]), BATCH)
 
     def test_calls_run_at_once(self):

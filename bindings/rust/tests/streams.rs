@@ -357,6 +357,66 @@ fn an_error_of_the_closure_ends_it() {
     assert_eq!((answer.unwrap_err().kind(), &all[..], reads.get()), (ErrorKind::AddrInUse, &b"a-a-a"[..], 2));
 }
 
+/// Random numbers, the same in every run.
+struct Numbers(u64);
+
+impl Numbers {
+    fn below(&mut self, bound: usize) -> usize {
+        self.0 = self.0.wrapping_mul(6364136223846793005).wrapping_add(1442695040888963407);
+        (self.0 >> 33) as usize % bound
+    }
+
+    fn word(&mut self, letters: &str, least: usize, bound: usize) -> String {
+        let letters: Vec<char> = letters.chars().collect();
+        (0..least + self.below(bound)).map(|_| letters[self.below(letters.len())]).collect()
+    }
+}
+
+/// What was written where a read failed begins the result, and has all that is settled by the bytes that were read.
+#[track_caller]
+fn check_failure(searcher: &AhoCorasick, text: &str, texts: &[String], mut left: Vec<Result<&str, ErrorKind>>) {
+    let (reads, mut all) = (Cell::new(0), Vec::new());
+    let read = left.iter().flatten().map(|piece| piece.len()).sum::<usize>();
+    left.push(Err(ErrorKind::ConnectionReset));
+    let error = searcher.try_stream_replace_all(pieces(left, &reads), &mut all, texts).unwrap_err();
+    assert_eq!(error.kind(), ErrorKind::ConnectionReset);
+    assert!(searcher.replace_all_bytes(text.as_bytes(), texts).starts_with(&all));
+    let passed = read.saturating_sub(searcher.max_pattern_len());
+    let settled =
+        searcher.find_iter(text).map(|found| found.end()).take_while(|end| *end <= passed).last().unwrap_or(0);
+    let mut wanted = searcher.replace_all_bytes(&text.as_bytes()[..settled], texts);
+    if searcher.find_iter(text).all(|found| found.end() <= settled || found.start() >= passed) {
+        wanted.extend_from_slice(&text.as_bytes()[settled..passed]);
+    }
+    assert!(all.starts_with(&wanted), "{read} of {text:?} by {searcher:?}");
+}
+
+#[test]
+fn random_lists_of_texts_replace_as_in_the_whole() {
+    let (mut numbers, reads) = (Numbers(1), Cell::new(0));
+    for turn in 0..3000 {
+        let letters = ["ab", "abAB", "ab\0"][numbers.below(3)];
+        let count = numbers.below(6);
+        let patterns: Vec<String> = (0..count).map(|_| numbers.word(letters, 1, 5)).collect();
+        let texts: Vec<String> = (0..count).map(|_| numbers.word(letters, 0, 6)).collect();
+        let text = numbers.word(letters, 0, 80);
+        let mut builder = AhoCorasick::builder();
+        builder
+            .match_kind(KINDS[turn % 3])
+            .ascii_case_insensitive(numbers.below(2) == 0)
+            .prefilter(numbers.below(2) == 0);
+        let searcher = builder.build(&patterns).unwrap();
+        let whole = searcher.replace_all_bytes(text.as_bytes(), &texts);
+        let lens: Vec<usize> = (0..=numbers.below(5)).map(|_| 1 + numbers.below(9)).collect();
+        let (mut left, mut all) = (sips(&text, &lens), Vec::new());
+        searcher.try_stream_replace_all(pieces(left.clone(), &reads), &mut all, &texts).unwrap();
+        assert_eq!(all, whole, "{patterns:?} in {text:?}, {texts:?}, {searcher:?}");
+        assert_eq!(reads.get(), left.len() + 1);
+        left.truncate(numbers.below(left.len() + 1));
+        check_failure(&searcher, &text, &texts, left);
+    }
+}
+
 /// A reader that checks how much was written before each read.
 struct Watched<'t> {
     left: VecDeque<(&'t str, usize)>,
